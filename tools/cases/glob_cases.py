@@ -1,5 +1,5 @@
 #!/usr/bin/env python3
-"""The cases of crates/deny_globs_cases: `glob_cases.py cases` prints them, one a line, and `glob_cases.py answers` what
+"""The cases of crates/deny_cases_globs: `glob_cases.py cases` prints them, one a line, and `glob_cases.py answers` what
 tools/readings/globs.py says of each.
 
     set           begins a set with no globs

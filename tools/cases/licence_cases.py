@@ -1,5 +1,5 @@
 #!/usr/bin/env python3
-"""The cases of crates/deny_spdx_cases: `licence_cases.py cases` prints them, one a line, and `licence_cases.py answers`
+"""The cases of crates/deny_cases_spdx: `licence_cases.py cases` prints them, one a line, and `licence_cases.py answers`
 what tools/readings/licences.py says of each.
 """
 

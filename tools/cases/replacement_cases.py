@@ -1,8 +1,8 @@
 #!/usr/bin/env python3
-"""Writes the cases of crates/deny_std_cases: `stdin`, a table's bytes a line with the names that are looked
+"""Writes the cases of crates/deny_cases_std: `stdin`, a table's bytes a line with the names that are looked
 up in it, all in hex (`-` for none), and `stdout`, the answers by tools/readings/replacements.py.
 
-usage: tools/cases/replacement_cases.py [FOLDER]   (crates/deny_std_cases where none is given)
+usage: tools/cases/replacement_cases.py [FOLDER]   (crates/deny_cases_std where none is given)
 """
 
 import os
@@ -176,7 +176,7 @@ def check_reading():
 
 def main():
     check_reading()
-    folder = sys.argv[1] if len(sys.argv) > 1 else os.path.join(os.path.dirname(__file__), "../../crates/deny_std_cases")
+    folder = sys.argv[1] if len(sys.argv) > 1 else os.path.join(os.path.dirname(__file__), "../../crates/deny_cases_std")
     cases, answers = [], []
     for whole in dict.fromkeys(tables()):
         names = names_to_look_up(whole)

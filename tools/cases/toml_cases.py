@@ -1,12 +1,12 @@
 #!/usr/bin/env python3
-"""Writes the cases of crates/deny_toml_cases: `stdin`, a text of TOML a line as a JSON string, and `stdout`, what
+"""Writes the cases of crates/deny_cases_toml: `stdin`, a text of TOML a line as a JSON string, and `stdout`, what
 each text is by tools/readings/toml.py.
 
 What a text is, tree, outside the grammar or clashing, is written beside each case, from the TOML document where it
 shows or names the case; the reading has to agree with it. Python's tomllib has to agree too, in what it accepts and
 in the values, but where a profile differs: `differs` names these cases.
 
-usage: tools/cases/toml_cases.py [FOLDER]   (crates/deny_toml_cases where none is given)
+usage: tools/cases/toml_cases.py [FOLDER]   (crates/deny_cases_toml where none is given)
 """
 import datetime
 import itertools
@@ -435,7 +435,7 @@ def check(text, verdict, answer):
 
 
 def main():
-    folder = sys.argv[1] if len(sys.argv) > 1 else os.path.join(os.path.dirname(__file__), "../../crates/deny_toml_cases")
+    folder = sys.argv[1] if len(sys.argv) > 1 else os.path.join(os.path.dirname(__file__), "../../crates/deny_cases_toml")
     cases, answers = [], []
     texts = set()
     for text, verdict in itertools.chain.from_iterable(GROUPS):

@@ -58,7 +58,7 @@ bans_codes =
     ∷ bans.UnmatchedReplacementIgnore
     ∷ []
 
--- those of licences
+-- the codes of licences, in the order of declaration
 abbrev pub license_codes : List LicenseCode
 license_codes =
     license.Accepted
@@ -124,7 +124,7 @@ code_at-number (License license.SkippedPrivateWorkspaceCrate) = refl
 code_at-number (License license.LicenseNotEncountered) = refl
 code_at-number (License license.LicenseExceptionNotEncountered) = refl
 
--- what a test says of every code in the list, it says of every code
+-- a test that all codes of the list pass is passed by every code
 pub each_code : (test : DiagnosticCode → Bool) → IsTrue (list_all test all_codes) → (code : DiagnosticCode)
     → IsTrue (test code)
 unfolding code_at

@@ -3,7 +3,7 @@ use Rattle.std.proofs.Common.{◌≡◌, ℕ, List, [], ◌∷◌, slice_index_o
 use Rattle.std.specs.Cmp.{IsTotalOrder, nat_cmp_total, on_total, then_total}
 use Rattle.std.specs.FinMap.{IsAntisymmetric, nat_cmp-IsAntisymmetric}
 use Rattle.deny_base.proofs.KeyEqual.{span_cmp-exact, span_cmp-total}
-use Rattle.deny_lists.proofs.Orders.{then_first, then_second}
+use Rattle.deny_base_lists.proofs.Orders.{then_first, then_second}
 use Rattle.deny_base.specs.Entry.{entry_kind_number, entry_kind_cmp, entry_cmp}
 use Rattle.deny_base.specs.KeyOrder.{span_cmp}
 use Rattle.deny_base.specs.declared.entry.EntryId.{EntryId}
@@ -47,7 +47,7 @@ entry_kind_cmp-exact a b e =
     ∙ entry_kind_at-number b)
 
 entry_from : EntryKind → Span → EntryId
-entry_from kind range = record { kind = kind; range = range }
+entry_from kind span = record { kind = kind; range = span }
 
 entry_from-is : (e : EntryId) → entry_from e.kind e.range ≡ e
 unfolding entry_from
@@ -55,7 +55,7 @@ entry_from-is e = refl
 
 pub entry_cmp-exact : IsAntisymmetric entry_cmp
 entry_cmp-exact a b e =
-    let range : a.range ≡ b.range = span_cmp-exact a.range b.range (then_first _ _ e) in
+    let span : a.range ≡ b.range = span_cmp-exact a.range b.range (then_first _ _ e) in
     let kind : a.kind ≡ b.kind = entry_kind_cmp-exact a.kind b.kind
     (then_second (span_cmp a.range b.range) (entry_kind_cmp a.kind b.kind) e) in
     cc (entry_from-is a, entry_from-is b)

@@ -1,5 +1,5 @@
 -- Only equal keys tie.
-use Rattle.deny_lists.proofs.Orders.{text_cmp-exact, then_first, then_second}
+use Rattle.deny_base_lists.proofs.Orders.{text_cmp-exact, then_first, then_second}
 use Rattle.std.proofs.Common.{◌≡◌, ℕ, List, [], ◌∷◌, slice_index_or, refl, sym, ap, ◌∙◌}
 use Rattle.std.specs.Ordering.{nat_cmp}
 use Rattle.std.specs.Cmp.{IsTotalOrder, nat_cmp_total, on_total, then_total}
@@ -14,7 +14,7 @@ use Rattle.deny_base.specs.declared.key.Section.{Section}
 use Rattle.deny_base.specs.declared.key.Section.TheVariants as section
 use Rattle.deny_base.specs.declared.span.Span.{Span}
 
--- what stands at a number of the order of declaration
+-- the section with a number of the order of declaration
 sections : List Section
 sections = section.Deprecated ∷ section.Crates ∷ section.Groups ∷ section.Workspace ∷ section.Unused ∷ section.Std
     ∷ section.Licenses ∷ section.LicensesUnused ∷ []

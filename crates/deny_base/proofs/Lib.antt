@@ -3,3 +3,4 @@ pub mod EdgeEqual
 pub mod EntryEqual
 pub mod KeyEqual
 pub mod LocationLemmas
+pub mod UnreadEqual

@@ -6,7 +6,7 @@ use Rattle.std.specs.List.{after_last, count_by, prefix_len, fold}
 use Rattle.std.specs.Str.{chars, IsUtf8, IsCharBoundary}
 use Rattle.std.proofs.lemmas.Bool.{ltb-true, ltb-false, lt-ltb, le-ltb, le-leb, lt-leb, ne_eqb, cases_lt}
 use Rattle.std.proofs.lemmas.List.{reverse-append, length-reverse, drop-append-le, take_more, get_or-take, get_or-drop}
-use Rattle.std.proofs.lemmas.List.{get_or_append_left, get_or_push, get_or_past, length-take, length-take-le}
+use Rattle.std.proofs.lemmas.List.{get_or_past, length-take, length-take-le}
 use Rattle.std.proofs.lemmas.List.{append-nil}
 use Rattle.std.proofs.lemmas.List.Sums.{prefix_len-le-length, sum_by_push, count_by-le-length, fold-append}
 use Rattle.std.proofs.lemmas.Str.{IsUtf8-take, encodes-chars}
@@ -24,7 +24,7 @@ cut_push {X} false xs x k fits =
     let n : length (xs ++ x ∷ []) - (1 + k) ≡ length xs - k = omega (arith, length-append xs (x ∷ [])) in
     ap (λ n. drop n (xs ++ x ∷ [])) n ∙ drop-append-le (length xs - k) xs (x ∷ []) (omega arith)
 
--- what follows the last one, where one more element comes
+-- the elements behind the last one that passes a test, after one more element
 after_last-push : {X : Type 0} (p : X → Bool) (xs : List X) (x : X)
     → after_last p (xs ++ x ∷ []) ≡ cond (p x) [] (after_last p xs ++ x ∷ [])
 after_last-push {X} p xs x =
@@ -50,7 +50,7 @@ past_cases false true line column = ap (λ n. location_from n (column + 1)) (ome
 past_cases false false line column = ap (λ n. location_from n (column + 0)) (omega arith)
     ∙ ap (location_from line) (omega arith)
 
-pub location_after-push : (bytes : List ℕ) (byte : ℕ)
+location_after-push : (bytes : List ℕ) (byte : ℕ)
     → location_after (bytes ++ byte ∷ []) ≡ past (location_after bytes) byte
 unfolding location_after location_from
 location_after-push bytes byte =
@@ -61,17 +61,17 @@ location_after-push bytes byte =
     ∙ past_cases (is_newline byte) (begins_character byte) (count_by is_newline bytes)
     (count_by begins_character (after_last is_newline bytes))
 
-pub location_after-more : (text : List ℕ) (n byte : ℕ) → n < length text → byte ≡ get_or text n 0
+location_after-more : (text : List ℕ) (n byte : ℕ) → n < length text → byte ≡ get_or text n 0
     → location_after (take (n + 1) text) ≡ past (location_after (take n text)) byte
 location_after-more text n byte within is =
     ap location_after (take_more text n 0 within) ∙ location_after-push (take n text) (get_or text n 0)
     ∙ ap (past (location_after (take n text))) (sym is)
 
-pub location_after-line : (bytes : List ℕ) → (location_after bytes).line ≤ length bytes
+location_after-line : (bytes : List ℕ) → (location_after bytes).line ≤ length bytes
 unfolding location_after
 location_after-line bytes = count_by-le-length is_newline bytes
 
-pub location_after-column : (bytes : List ℕ) → (location_after bytes).column ≤ length bytes
+location_after-column : (bytes : List ℕ) → (location_after bytes).column ≤ length bytes
 unfolding location_after
 location_after-column bytes = omega (
   arith,
@@ -79,7 +79,7 @@ location_after-column bytes = omega (
   length-drop (length bytes - prefix_len (λ x. not (is_newline x)) (reverse bytes)) bytes,
 )
 
--- going on by a byte of a part of the text
+-- the location after one more byte of a part of the text
 pub advanced : (text : List ℕ) (from to n : ℕ) (at : Location) → from ≤ to → to ≤ length text
     → n < length (take (to - from) (drop from text))
     → at ≡ location_after (take (from + n) text)
@@ -92,7 +92,7 @@ advanced text from to n at order within below is =
     ap (λ a. past a byte) is ∙ sym (location_after-more text (from + n) byte (omega arith) read)
     ∙ ap (λ k. location_after (take k text)) (omega arith)
 
--- both count no further than the text has bytes
+-- line and column are at most the number of bytes
 pub record IsWithin (at : Location) (n : ℕ) : Type 0 where
   pub line : at.line < n
   pub column : at.column < n
@@ -201,7 +201,7 @@ encoded_by at c false false false is =
     ∙ past_next (past at (240 + c / 262144)) (c / 4096) ∙ past_first at (240 + c / 262144) (omega arith)
     ∙ behind_high at c (ltb-false c 128 is)
 
--- the bytes of a character go on by one character
+-- the bytes of a character advance the location by one character
 behind_encode : (at : Location) (c : ℕ) → fold past at (encode c) ≡ behind at c
 unfolding encode
 behind_encode at c = encoded_by at c (ltb c 128) (ltb c 2048) (ltb c 65536) refl
@@ -223,28 +223,13 @@ location_of_encodes cs =
     ∙ sym (fold_from_push behind location_of_characters location_of_characters-push [] cs
     ∙ ap (λ (a : Location). fold behind a cs) no_characters)
 
--- at a character boundary both ways of counting agree
-pub location_at_boundary : (text : List ℕ) (offset : ℕ) → IsUtf8 text → IsCharBoundary text offset
+-- at a character boundary, counting by bytes and counting by characters agree
+location_at_boundary : (text : List ℕ) (offset : ℕ) → IsUtf8 text → IsCharBoundary text offset
     → location_after (take offset text) ≡ location_at text offset
 unfolding location_at location_of_characters location_from
 location_at_boundary text offset utf8 boundary =
     ap location_after (sym (encodes-chars (take offset text) (IsUtf8-take text offset utf8 boundary)))
     ∙ location_of_encodes (chars (take offset text))
-
--- one mark more
-pub marks_more : (text : List ℕ) (n : ℕ) (marks : List Location) (at : Location) → AreMarks text n marks
-    → at ≡ location_after (take (256 * (n + 1)) text)
-    → AreMarks text (n + 1) (marks ++ at ∷ [])
-marks_more text n marks at first is = record {
-  count = omega (arith, length-append marks (at ∷ []), first.count);
-  each = λ k d below. elim (cases_lt k (length marks))
-      as (λ _. get_or (marks ++ at ∷ []) k d ≡ location_after (take (256 * k) text)) [
-        | inl old ↦ get_or_append_left marks (at ∷ []) d k old ∙ first.each k d old
-        | inr new ↦ (let last : k ≡ n + 1 = omega (arith, length-append marks (at ∷ []), below, first.count) in
-            ap (λ j. get_or (marks ++ at ∷ []) j d) last ∙ get_or_push marks at d (n + 1) first.count ∙ is
-            ∙ ap (λ j. location_after (take (256 * j) text)) (sym last))
-      ];
-}
 
 -- a text begins at line 0 and column 0
 pub first_location : ◌≡◌ {A = Location} (record { line = 0; column = 0 }) (location_after [])

@@ -1,4 +1,4 @@
--- The order of entries: by range, and then by kind.
+-- The order of entries: by span, and then by kind.
 use Rattle.std.specs.Prelude.{ℕ}
 use Rattle.std.specs.Ordering.{nat_cmp, on, then_cmp}
 use Rattle.std.specs.declared.cmp.Ordering.{Ordering}

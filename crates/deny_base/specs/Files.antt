@@ -35,7 +35,7 @@ abbrev pub location_in_file : Option File → ℕ → Option Location
 location_in_file None offset = None
 location_in_file (Some file) offset = location_of file.source offset
 
--- where the offset stands in the file of this number, if the file is there and the offset is a
+-- the location of the offset in the file of this id, if there is such a file and the offset is a
 -- character boundary of it
 abbrev pub location_in : List File → ℕ → ℕ → Option Location
 location_in files id offset = location_in_file (slice_get files id) offset

@@ -1,3 +1,4 @@
+pub mod About
 pub mod Code
 pub mod Edge
 pub mod Entry
@@ -5,5 +6,7 @@ pub mod Files
 pub mod KeyOrder
 pub mod Level
 pub mod LicenseCode
+pub mod Purpose
 pub mod Rule
+pub mod Unread
 pub mod private

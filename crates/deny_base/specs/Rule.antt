@@ -1,7 +1,7 @@
--- The rules that can tell errors, by where a policy writes them.
+-- The rules that can report errors, by where a policy writes them.
 
 pub data Rule : Type 0 where
-  -- bans, the allow list and several versions, which are written by what they speak of
+  -- bans, the allow list and several versions
   OnCrates : Rule
   OnWildcards : Rule
   OnFeatures : Rule

@@ -7,7 +7,7 @@ pub enum Check {
     Sources,
 }
 
-/// One of the texts that a run reads.
+/// One of the inputs of a run.
 #[derive(Clone, Copy)]
 pub enum Which {
     Policy,

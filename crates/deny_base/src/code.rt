@@ -1,5 +1,4 @@
 ghost use Rattle.std.specs.Prelude.{◌≡◌, ◌+◌, ◌==◌, Some, refl};
-ghost use Rattle.std.specs.Ordering.{nat_cmp, on};
 ghost use Rattle.std.specs.Cmp.{IsTotalOrder, nat_cmp_total, on_total, on_per};
 ghost use Rattle.std.specs.Cmp.{on_equiv, nat_eq_equiv, partial_equiv_from_equiv};
 ghost use Rattle.std.specs.Cmp.{partial_order_from_own_ties, partial_order_from_total, unsigned_ties};
@@ -112,7 +111,7 @@ impl Code {
         self as u8
     }
 
-    /// The kind of entry that a finding of this code says came to nothing, if it says so of one.
+    /// The kind of entry that a finding of this code says is unused, if it says so of one.
     pub fn unused_kind(self) -> Option<EntryKind>
         ensures { result ≡ bans_unused_kind self }
     {
@@ -209,6 +208,45 @@ impl fmt::Display for Code {
     }
 }
 
+impl PartialEq for Code {
+    ghost eq = { λ a b. code_number a == code_number b };
+
+    ghost laws = { on_per code_number (partial_equiv_from_equiv nat_eq_equiv) };
+
+    fn eq(&self, other: &Self) -> bool {
+        self.number() == other.number()
+    }
+}
+
+impl Eq for Code {
+    ghost laws = { on_equiv code_number nat_eq_equiv };
+}
+
+impl PartialOrd for Code {
+    ghost partial_cmp = { λ a b. Some (code_cmp a b) };
+
+    ghost laws = { partial_order_from_own_ties (partial_order_from_total (on_total code_number nat_cmp_total))
+        (λ a b. unsigned_ties (code_number a) (code_number b)) };
+
+    fn partial_cmp(&self, other: &Self) -> Option<Ordering> {
+        Some(self.cmp(other))
+    }
+}
+
+impl Ord for Code {
+    ghost cmp = { code_cmp };
+
+    ghost total = { on_total code_number nat_cmp_total };
+
+    ghost matches_partial_cmp = { λ a b. refl };
+
+    ghost matches_eq = { λ a b. unsigned_ties (code_number a) (code_number b) };
+
+    fn cmp(&self, other: &Self) -> Ordering {
+        self.number().cmp(&other.number())
+    }
+}
+
 /// The kind of a finding, whichever check it comes from.
 #[derive(Debug, Clone, Copy)]
 pub enum DiagnosticCode {
@@ -245,7 +283,7 @@ impl DiagnosticCode {
         }
     }
 
-    /// The kind of entry that a finding of this code says came to nothing, if it says so of one.
+    /// The kind of entry that a finding of this code says is unused, if it says so of one.
     pub fn unused_kind(self) -> Option<EntryKind>
         ensures { result ≡ unused_kind self }
     {
@@ -320,6 +358,8 @@ impl Ord for DiagnosticCode {
 /// licences. It is total, only equal codes tie, and no two codes have the same word.
 pub fn code_order()
     ensures order { (a b : DiagnosticCode) → ⟦<DiagnosticCode as Ord>⟧.cmp a b ≡ diagnostic_code_cmp a b }
+    ensures bans_order { (a b : Code) → ⟦<Code as Ord>⟧.cmp a b ≡ code_cmp a b }
+    ensures licenses_order { (a b : LicenseCode) → ⟦<LicenseCode as Ord>⟧.cmp a b ≡ license_code_cmp a b }
     ensures total { IsTotalOrder diagnostic_code_cmp }
     ensures equal { IsAntisymmetric diagnostic_code_cmp }
     ensures bans { IsAntisymmetric code_cmp }

@@ -1,5 +1,4 @@
 ghost use Rattle.std.specs.Prelude.{◌≡◌, ◌==◌, Some, refl};
-ghost use Rattle.std.specs.Ordering.{nat_cmp, on};
 ghost use Rattle.std.specs.Cmp.{IsTotalOrder, nat_cmp_total, on_total, on_per};
 ghost use Rattle.std.specs.Cmp.{on_equiv, nat_eq_equiv, partial_equiv_from_equiv};
 ghost use Rattle.std.specs.Cmp.{partial_order_from_own_ties, partial_order_from_total, unsigned_ties};
@@ -9,7 +8,7 @@ ghost use Rattle.deny_base.specs.declared.edge.Edge.{Edge};
 
 use std::cmp::Ordering;
 
-/// How a crate is needed: by the crate itself, by its tests and examples, or by its build script.
+/// The part of a crate that needs a dependency: the crate itself, its tests and examples, or its build script.
 #[derive(Clone, Copy)]
 pub enum DepKind {
     Normal,

@@ -1,5 +1,5 @@
 ghost use Rattle.std.specs.Prelude.{◌≡◌, ◌==◌, Some, refl};
-ghost use Rattle.std.specs.Ordering.{nat_cmp, on, eq_by_cmp};
+ghost use Rattle.std.specs.Ordering.{eq_by_cmp};
 ghost use Rattle.std.specs.Cmp.{IsTotalOrder, nat_cmp_total, on_total, on_per};
 ghost use Rattle.std.specs.Cmp.{on_equiv, nat_eq_equiv, partial_equiv_from_equiv};
 ghost use Rattle.std.specs.Cmp.{partial_order_from_own_ties, partial_order_from_total, unsigned_ties};
@@ -10,10 +10,10 @@ ghost use Rattle.deny_base.specs.Entry.{entry_kind_number, entry_kind_cmp, entry
 ghost use Rattle.deny_base.specs.declared.entry.EntryId.{EntryId};
 
 use crate::span::{Kid, Span};
-use deny_lists::Text;
+use deny_base_lists::Text;
 use std::cmp::Ordering;
 
-/// The kinds of entry of a policy that allow something, and so are of use only where they meet it.
+/// The kinds of entry of a policy that allow something, and are unused where there is no hit.
 #[derive(Clone, Copy)]
 pub enum EntryKind {
     Skip,
@@ -76,7 +76,7 @@ impl Ord for EntryKind {
     }
 }
 
-/// An entry of a policy: its kind, and the range of its text.
+/// An entry of a policy: its kind and its span.
 #[derive(Clone, Copy)]
 pub struct EntryId {
     pub kind: EntryKind,
@@ -123,7 +123,7 @@ impl Ord for EntryId {
     }
 }
 
-/// Where an entry was met: at a crate, at a crate's direct parent, or at a file of a crate.
+/// What a hit rests on: a crate, a crate with a direct parent, or a file of a crate.
 #[derive(Clone, Drop)]
 pub enum Witness {
     Krate(Kid),
@@ -131,14 +131,14 @@ pub enum Witness {
     File { krate: Kid, path: Text },
 }
 
-/// An entry that was met, and where.
+/// An entry that was of use, and its witness.
 #[derive(Clone, Drop)]
 pub struct Hit {
     pub entry: EntryId,
     pub witness: Witness,
 }
 
-/// The order of entries is by range and then by kind, it is total, and only equal entries tie.
+/// The order of entries is by span and then by kind, it is total, and only equal entries tie.
 pub fn entry_order()
     ensures fields { (a b : EntryId) → ⟦<EntryId as Ord>⟧.cmp a b ≡ entry_cmp a b }
     ensures total { IsTotalOrder entry_cmp }

@@ -2,11 +2,11 @@ ghost use Rattle.std.specs.Prelude.{◌≡◌, ◌+◌, ◌*◌, ◌-◌, ◌/�
 ghost use Rattle.std.specs.Prelude.{length, take, slice_get, option_map, IfOk, OnOk, OnErr};
 ghost use Rattle.std.specs.List.{position};
 ghost use Rattle.std.specs.Str.{bytes_eq};
-ghost use Rattle.deny_base.specs.Files.{begins_character, is_boundary, location_of, location_in};
+ghost use Rattle.deny_base.specs.Files.{begins_character, location_of, location_in};
 ghost use Rattle.deny_base.specs.private.Marks.{AreMarks, location_after, past};
 
 use crate::label::FileId;
-use deny_lists::{List, NoMemory, Text};
+use deny_base_lists::{List, NoMemory, Text};
 use std::alloc::Global;
 use std::marker::Model;
 
@@ -49,7 +49,7 @@ impl Location {
     }
 }
 
-/// Goes on from the location of one offset to that of a later one.
+/// The location of an offset, counted from the location of an earlier one.
 fn advance(at: Location, text: &[u8], from: usize, to: usize) -> Location
     requires short { length text.now < 2 ^ 32 }
     requires order { from ≤ to }
@@ -176,8 +176,7 @@ impl Files {
         }
     }
 
-    /// Puts a file behind the others, and gives its number. Where memory runs out nothing has
-    /// changed.
+    /// Adds a file at the end, and returns its id. Where memory runs out nothing has changed.
     pub fn add(&mut self, path: &str, source: &str) -> Result<FileId, NoMemory>
         requires room { length self.old < 2 ^ 32 - 1 }
         requires short { length source.now < 2 ^ 32 }
@@ -204,7 +203,7 @@ impl Files {
         Some(file.source.as_str())
     }
 
-    /// The number of the first file of the path.
+    /// The id of the first file of the path.
     pub fn id_for_path(&self, path: &str) -> Option<FileId>
         ensures { result ≡ position (λ file. bytes_eq file.path path.now) self.now }
     {

@@ -4,9 +4,9 @@ use crate::key::Key;
 use crate::label::Label;
 use crate::level::Severity;
 use crate::span::Kid;
-use deny_lists::{List, Text};
+use deny_base_lists::{List, Text};
 
-/// What a report says of a finding.
+/// The message of a finding, with its severity, labels and notes.
 #[derive(Debug, Drop)]
 pub struct Diagnostic {
     pub severity: Severity,
@@ -23,7 +23,7 @@ pub struct GraphNode {
     pub feature: Option<Text>,
 }
 
-/// A diagnostic with the key that orders it, and what is shown of the graph with it.
+/// A diagnostic with the key that orders it, and the nodes of the graph that are shown with it.
 #[derive(Drop)]
 pub struct Diag {
     pub key: Key,
@@ -34,7 +34,7 @@ pub struct Diag {
     pub with_features: bool,
 }
 
-/// What one check found of a crate, or of no single crate.
+/// The diagnostics of one check about a crate, or about no single crate.
 #[derive(Drop)]
 pub struct Pack {
     pub check: Check,

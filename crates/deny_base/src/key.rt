@@ -1,5 +1,4 @@
 ghost use Rattle.std.specs.Prelude.{◌≡◌, ◌==◌, Some, refl};
-ghost use Rattle.std.specs.Ordering.{nat_cmp, on};
 ghost use Rattle.std.specs.Cmp.{IsTotalOrder, nat_cmp_total, on_total, on_per};
 ghost use Rattle.std.specs.Cmp.{on_equiv, nat_eq_equiv, partial_equiv_from_equiv};
 ghost use Rattle.std.specs.Cmp.{partial_order_from_own_ties, partial_order_from_total, unsigned_ties};
@@ -10,7 +9,7 @@ ghost use Rattle.deny_base.specs.declared.key.Key.{Key};
 
 use crate::code::DiagnosticCode;
 use crate::span::Span;
-use deny_lists::{List, Text};
+use deny_base_lists::{List, Text};
 use std::cmp::Ordering;
 
 /// The part of a report that a finding stands in; reports show sections in this order.
@@ -84,7 +83,7 @@ impl Ord for Section {
     }
 }
 
-/// What a finding is about, and so its identity in a report: no report holds a key twice, and
+/// The identity of a finding in a report: no report holds a key twice, and
 /// findings ascend by their keys, compared field by field. Fields that a code does not use are 0
 /// or empty.
 #[derive(Clone, PartialEq, Eq, PartialOrd, Ord, Drop)]
@@ -93,7 +92,7 @@ pub struct Key {
     /// The place of a crate in graph order, from 0.
     pub place: u32,
     pub code: DiagnosticCode,
-    /// The range of the policy's entry.
+    /// The span of the policy's entry.
     pub entry: Span,
     pub text: Text,
     /// The place of another crate.

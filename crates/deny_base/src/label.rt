@@ -1,5 +1,5 @@
 use crate::span::Span;
-use deny_lists::Text;
+use deny_base_lists::Text;
 
 /// The number of a file among the files of a run, from 0 in the order in which they were added.
 pub type FileId = u32;
@@ -11,7 +11,7 @@ pub enum LabelStyle {
     Secondary,
 }
 
-/// A range of a file, and what is said of it.
+/// A span of a file, and its message.
 #[derive(Debug, Drop)]
 pub struct Label {
     pub style: LabelStyle,

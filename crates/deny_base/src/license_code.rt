@@ -1,9 +1,12 @@
-ghost use Rattle.std.specs.Prelude.{◌≡◌, Some};
-ghost use Rattle.std.specs.Ordering.{nat_cmp, on};
-ghost use Rattle.deny_base.specs.LicenseCode.{license_code_name, license_code_number};
+ghost use Rattle.std.specs.Prelude.{◌≡◌, ◌==◌, Some, refl};
+ghost use Rattle.std.specs.Cmp.{nat_cmp_total, on_total, on_per};
+ghost use Rattle.std.specs.Cmp.{on_equiv, nat_eq_equiv, partial_equiv_from_equiv};
+ghost use Rattle.std.specs.Cmp.{partial_order_from_own_ties, partial_order_from_total, unsigned_ties};
+ghost use Rattle.deny_base.specs.LicenseCode.{license_code_name, license_code_number, license_code_cmp};
 ghost use Rattle.deny_base.specs.LicenseCode.{license_unused_kind};
 
 use crate::entry::EntryKind;
+use std::cmp::Ordering;
 use std::fmt;
 
 /// A kind of finding of the licence check.
@@ -43,7 +46,7 @@ impl LicenseCode {
         self as u8
     }
 
-    /// The kind of entry that a finding of this code says came to nothing, if it says so of one.
+    /// The kind of entry that a finding of this code says is unused, if it says so of one.
     pub fn unused_kind(self) -> Option<EntryKind>
         ensures { result ≡ license_unused_kind self }
     {
@@ -64,5 +67,44 @@ impl fmt::Display for LicenseCode {
 
     fn fmt<W: fmt::Write>(&self, f: &mut fmt::Formatter<W>) -> fmt::Result {
         f.write_str(self.name())
+    }
+}
+
+impl PartialEq for LicenseCode {
+    ghost eq = { λ a b. license_code_number a == license_code_number b };
+
+    ghost laws = { on_per license_code_number (partial_equiv_from_equiv nat_eq_equiv) };
+
+    fn eq(&self, other: &Self) -> bool {
+        self.number() == other.number()
+    }
+}
+
+impl Eq for LicenseCode {
+    ghost laws = { on_equiv license_code_number nat_eq_equiv };
+}
+
+impl PartialOrd for LicenseCode {
+    ghost partial_cmp = { λ a b. Some (license_code_cmp a b) };
+
+    ghost laws = { partial_order_from_own_ties (partial_order_from_total (on_total license_code_number nat_cmp_total))
+        (λ a b. unsigned_ties (license_code_number a) (license_code_number b)) };
+
+    fn partial_cmp(&self, other: &Self) -> Option<Ordering> {
+        Some(self.cmp(other))
+    }
+}
+
+impl Ord for LicenseCode {
+    ghost cmp = { license_code_cmp };
+
+    ghost total = { on_total license_code_number nat_cmp_total };
+
+    ghost matches_partial_cmp = { λ a b. refl };
+
+    ghost matches_eq = { λ a b. unsigned_ties (license_code_number a) (license_code_number b) };
+
+    fn cmp(&self, other: &Self) -> Ordering {
+        self.number().cmp(&other.number())
     }
 }

@@ -1,13 +1,13 @@
-use deny_lists::Text;
+use deny_base_lists::Text;
 
-/// A range of a text in byte offsets: from `start` to before `end`.
+/// The byte offsets of a part of a text: from `start` to before `end`.
 #[derive(Debug, Clone, Copy, PartialEq, Eq, PartialOrd, Ord)]
 pub struct Span {
     pub start: u32,
     pub end: u32,
 }
 
-/// A value with the range of the text that it was read from.
+/// A value with the span of the text that it was read from.
 #[derive(Drop)]
 pub struct Spanned<T> {
     pub value: T,

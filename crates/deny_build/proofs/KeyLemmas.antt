@@ -1,4 +1,4 @@
--- The keys of a crate, by what the code finds of it.
+-- The keys of a crate, by what the code finds.
 use Rattle.std.proofs.Common.{◌≡◌, ◌∙◌, ◌++◌, ◌∷◌, [], ℕ, suc, append_assoc, Bool, true, false, Bor, List, Option, Some}
 use Rattle.std.proofs.Common.{None, filter, is_some, length, map, not, refl, sym, ap, arith}
 use Rattle.std.specs.Prelude.{nat_lt}
@@ -12,188 +12,195 @@ use Rattle.std.proofs.lemmas.Simd.{map-map}
 use Rattle.deny_base.specs.declared.code.Code.TheVariants as code
 use Rattle.deny_base.specs.declared.span.Kid.{Kid}
 use Rattle.deny_base.specs.declared.span.Span.{Span}
-use Rattle.deny_build_model.specs.Building.{AllowedPath, Building, Bypass, ScriptGlob}
-use Rattle.deny_build_model.specs.declared.package.Package.{Package}
-use Rattle.deny_build_model.specs.declared.package.PackageFile.{PackageFile}
-use Rattle.deny_build_model.specs.declared.package.Seen.{Seen}
-use Rattle.deny_codes.specs.BuildScripts.{bypass_range, required_unknown, used}
-use Rattle.deny_codes.specs.PackageFiles.{Class, ChecksumMatch, ChecksumMismatch, DeniedByExtension, DetectedExecutable}
-use Rattle.deny_codes.specs.PackageFiles.{DetectedExecutableScript, Harmless, PathBypassed, PathBypassedByGlob}
-use Rattle.deny_codes.specs.PackageFiles.{UnableToCheckPath, class_by, class_of, globs_of, hits_glob, hits_path}
-use Rattle.deny_codes.specs.PackageFiles.{is_decided_by, path_of_used, path_range, step_by, step_of}
-use Rattle.deny_codes.specs.Packages.{Looking, class_keys, deprecated_key, deprecated_keys, features_enabled_keys}
-use Rattle.deny_codes.specs.Packages.{file_keys, folder_key, package_of, path_key, right_script_keys, script_shown}
-use Rattle.deny_codes.specs.Packages.{unmatched_glob_keys, unmatched_keys, unmatched_path_keys, walked_keys}
-use Rattle.deny_lists.proofs.Agreement.{filter_on, flat_map_on, list_any_on}
-use Rattle.deny_lists.proofs.Filters.{find-any}
-use Rattle.deny_lists.specs.TextMap.{TextFinMap}
-use Rattle.deny_model.specs.Graph.{Crate}
-use Rattle.deny_model.specs.Keys.{crate_key}
-use Rattle.deny_model.specs.Policy.{Words}
-use Rattle.deny_build.specs.private.Files.{met_keys, told_by, told_keys}
+use Rattle.deny_spec.specs.Building.{AllowedPath, Building, Bypass, ScriptGlob}
+use Rattle.deny_spec.specs.declared.package.Package.{Package}
+use Rattle.deny_spec.specs.declared.package.PackageFile.{PackageFile}
+use Rattle.deny_spec.specs.declared.package.Seen.{Seen}
+use Rattle.deny_spec_report.specs.BuildScripts.{bypass_span, required_unknown, used}
+use Rattle.deny_spec_report.specs.PackageFiles.{Class, ChecksumMatch, ChecksumMismatch, DeniedByExtension}
+use Rattle.deny_spec_report.specs.PackageFiles.{DetectedExecutable}
+use Rattle.deny_spec_report.specs.PackageFiles.{DetectedExecutableScript, Harmless, PathBypassed, PathBypassedByGlob}
+use Rattle.deny_spec_report.specs.PackageFiles.{UnableToCheckPath, class_by, class_of, globs_of, hits_glob, hits_path}
+use Rattle.deny_spec_report.specs.PackageFiles.{is_decided_by, path_of_used, path_span, step_by, step_of}
+use Rattle.deny_spec_report.specs.Packages.{Scanning, class_keys, deprecated_key, deprecated_keys}
+use Rattle.deny_spec_report.specs.Packages.{features_enabled_keys}
+use Rattle.deny_spec_report.specs.Packages.{file_keys, folder_key, package_of, path_key, right_script_keys}
+use Rattle.deny_spec_report.specs.Packages.{script_shown}
+use Rattle.deny_spec_report.specs.Packages.{unmatched_glob_keys, unmatched_keys, unmatched_path_keys, walked_keys}
+use Rattle.deny_base_lists.proofs.Agreement.{filter_on, flat_map_on, list_any_on}
+use Rattle.deny_base_lists.proofs.Filters.{find-any}
+use Rattle.deny_base_lists.specs.TextMap.{TextFinMap}
+use Rattle.deny_spec.specs.Graph.{Crate}
+use Rattle.deny_spec.specs.Keys.{crate_key}
+use Rattle.deny_spec.specs.Policy.{SpannedText}
+use Rattle.deny_build.specs.private.Files.{matched_keys, finding_by, finding_keys}
 use Rattle.deny_build.specs.private.Globs.{IsSetOf, decides, own_texts, script_texts}
-use Rattle.deny_build.specs.private.Met.{IsFirstAt, MetFile, all_met, meets_glob, meets_path, met_by, number_at}
-use Rattle.deny_build.specs.private.Unmatched.{is_path_met, missed_glob_keys, missed_keys, missed_path_keys}
-use Rattle.deny_build.proofs.MetLemmas.{meets_glob_as, meets_path_as, none_found}
+use Rattle.deny_build.specs.private.FileMatch.{IsFirstAt, MatchedFile, all_matched, matches_glob, matches_path}
+use Rattle.deny_build.specs.private.FileMatch.{matched_by, number_at}
+use Rattle.deny_build.specs.private.Unmatched.{is_path_matched, missed_glob_keys, missed_keys, missed_path_keys}
+use Rattle.deny_build.proofs.MatchLemmas.{matches_glob_as, matches_path_as, none_found}
 use Rattle.deny_build.proofs.SetLemmas.{any-map, decides_by}
 
--- ---- the older key
+-- ---- the deprecated key
 
-pub deprecated_some : (b : Building) (range : Span) → b.older_key ≡ Some range
-    → deprecated_key range ∷ [] ≡ deprecated_keys b
+pub deprecated_some : (b : Building) (span : Span) → b.older_key ≡ Some span
+    → deprecated_key span ∷ [] ≡ deprecated_keys b
 unfolding deprecated_keys
-deprecated_some b range is = ap (λ o. option_map_or (λ (r : Span). deprecated_key r ∷ []) o []) (sym is)
+deprecated_some b span is = ap (λ o. option_map_or (λ (r : Span). deprecated_key r ∷ []) o []) (sym is)
 
 pub deprecated_none : (b : Building) → b.older_key ≡ None → [] ≡ deprecated_keys b
 unfolding deprecated_keys
 deprecated_none b is = ap (λ o. option_map_or (λ (r : Span). deprecated_key r ∷ []) o []) (sym is)
 
--- ---- scripts
+-- ---- build scripts
 
-pub right_are : (l : Looking) (c : Crate) (range : Span) (shown : List ℕ) (contents : Package)
-    (words : List (Bor Words))
+pub right_are : (l : Scanning) (c : Crate) (span : Span) (shown : List ℕ) (contents : Package)
+    (features : List (Bor SpannedText))
     → shown ≡ script_shown contents → contents ≡ package_of l c
-    → map (λ (w : Bor Words). w.now) words ≡ required_unknown l.building c
-    → path_key code.ChecksumMatch c.place range shown ∷ map
-    (λ (w : Bor Words). crate_key code.UnknownFeature c.place w.now.span) words
-    ≡ right_script_keys l c range
+    → map (λ (w : Bor SpannedText). w.now) features ≡ required_unknown l.building c
+    → path_key code.ChecksumMatch c.place span shown ∷ map
+    (λ (w : Bor SpannedText). crate_key code.UnknownFeature c.place w.now.span) features
+    ≡ right_script_keys l c span
 unfolding right_script_keys
-right_are l c range shown contents words is same are =
-    ap (λ s. path_key code.ChecksumMatch c.place range s
-    ∷ map (λ (w : Bor Words). crate_key code.UnknownFeature c.place w.now.span) words) (is ∙ ap script_shown same)
-    ∙ ap (λ keys. path_key code.ChecksumMatch c.place range (script_shown (package_of l c)) ∷ keys)
-    (sym (map-map (λ (w : Words). crate_key code.UnknownFeature c.place w.span) (λ (w : Bor Words). w.now) words)
-    ∙ ap (map (λ (w : Words). crate_key code.UnknownFeature c.place w.span)) are)
+right_are l c span shown contents features is same are =
+    ap (λ s. path_key code.ChecksumMatch c.place span s
+    ∷ map (λ (w : Bor SpannedText). crate_key code.UnknownFeature c.place w.now.span) features) (is
+    ∙ ap script_shown same)
+    ∙ ap (λ keys. path_key code.ChecksumMatch c.place span (script_shown (package_of l c)) ∷ keys)
+    (sym (map-map (λ (w : SpannedText). crate_key code.UnknownFeature c.place w.span)
+    (λ (w : Bor SpannedText). w.now) features)
+    ∙ ap (map (λ (w : SpannedText). crate_key code.UnknownFeature c.place w.span)) are)
 
-pub none_enabled : (place : ℕ) (first : Option Bypass) (y : Bypass) (enabled : List Words) → first ≡ Some y
+pub none_enabled : (place : ℕ) (first : Option Bypass) (y : Bypass) (enabled : List SpannedText) → first ≡ Some y
     → nat_lt 0 (length enabled) ≡ false → [] ≡ features_enabled_keys place first enabled
 none_enabled place first y enabled is none =
-    by_words enabled none ∙ ap (λ o. features_enabled_keys place o enabled) (sym is)
+    by_features enabled none ∙ ap (λ o. features_enabled_keys place o enabled) (sym is)
   where
-    by_words : (ws : List Words) → nat_lt 0 (length ws) ≡ false → [] ≡ features_enabled_keys place (Some y) ws
-    by_words [] none = refl
-    by_words (w ∷ ws) none = absurd (differ (sym (lt-ltb 0 (suc (length ws)) (omega arith)) ∙ none))
+    by_features : (ws : List SpannedText) → nat_lt 0 (length ws) ≡ false → [] ≡ features_enabled_keys place (Some y) ws
+    by_features [] none = refl
+    by_features (w ∷ ws) none = absurd (differ (sym (lt-ltb 0 (suc (length ws)) (omega arith)) ∙ none))
       where
         differ : true ≡ false → ⊥
         differ e = (cc)
 
-pub some_enabled : (place : ℕ) (first : Option Bypass) (y : Bypass) (enabled : List Words) → first ≡ Some y
+pub some_enabled : (place : ℕ) (first : Option Bypass) (y : Bypass) (enabled : List SpannedText) → first ≡ Some y
     → nat_lt 0 (length enabled) ≡ true
-    → crate_key code.FeaturesEnabled place (bypass_range y) ∷ [] ≡ features_enabled_keys place first enabled
+    → crate_key code.FeaturesEnabled place (bypass_span y) ∷ [] ≡ features_enabled_keys place first enabled
 some_enabled place first y enabled is some =
-    by_words enabled some ∙ ap (λ o. features_enabled_keys place o enabled) (sym is)
+    by_features enabled some ∙ ap (λ o. features_enabled_keys place o enabled) (sym is)
   where
-    by_words : (ws : List Words) → nat_lt 0 (length ws) ≡ true
-        → crate_key code.FeaturesEnabled place (bypass_range y) ∷ [] ≡ features_enabled_keys place (Some y) ws
-    by_words [] some = absurd (differ some)
+    by_features : (ws : List SpannedText) → nat_lt 0 (length ws) ≡ true
+        → crate_key code.FeaturesEnabled place (bypass_span y) ∷ [] ≡ features_enabled_keys place (Some y) ws
+    by_features [] some = absurd (differ some)
       where
         differ : nat_lt 0 0 ≡ true → ⊥
         differ e = (cc)
-    by_words (w ∷ ws) some = refl
+    by_features (w ∷ ws) some = refl
 
 -- ---- files
 
-told_as : (place : ℕ) (shown : List ℕ) (class : Class)
-    → told_keys place shown (told_by class) ≡ class_keys place shown class
-told_as place shown (PathBypassed range) = refl
-told_as place shown PathBypassedByGlob = refl
-told_as place shown (ChecksumMatch range) = refl
-told_as place shown (ChecksumMismatch range) = refl
-told_as place shown DeniedByExtension = refl
-told_as place shown UnableToCheckPath = refl
-told_as place shown DetectedExecutable = refl
-told_as place shown DetectedExecutableScript = refl
-told_as place shown Harmless = refl
+finding_as : (place : ℕ) (shown : List ℕ) (class : Class)
+    → finding_keys place shown (finding_by class) ≡ class_keys place shown class
+finding_as place shown (PathBypassed span) = refl
+finding_as place shown PathBypassedByGlob = refl
+finding_as place shown (ChecksumMatch span) = refl
+finding_as place shown (ChecksumMismatch span) = refl
+finding_as place shown DeniedByExtension = refl
+finding_as place shown UnableToCheckPath = refl
+finding_as place shown DetectedExecutable = refl
+finding_as place shown DetectedExecutableScript = refl
+finding_as place shown Harmless = refl
 
-module _ (l : Looking) (c : Crate) (first : Option Bypass) (is : first ≡ used l.building c)
+module _ (l : Scanning) (c : Crate) (first : Option Bypass) (is : first ≡ used l.building c)
     (own scripts : TextFinMap Bool)
     (owned : IsSetOf (own_texts first) own) (scripted : IsSetOf (script_texts l.building) scripts) where
-  met_as : (kid : Kid) (file : PackageFile) → met_keys own scripts c.place (met_by first kid file) ≡ file_keys l c file
-  unfolding met_keys met_by file_keys class_of step_of
-  met_as kid file =
-      ap (λ b. told_keys c.place file.seen.shown (told_by (class_by
+  matched_as : (kid : Kid) (file : PackageFile) → matched_keys own scripts c.place (matched_by first kid file)
+      ≡ file_keys l c file
+  unfolding matched_keys matched_by file_keys class_of step_of
+  matched_as kid file =
+      ap (λ b. finding_keys c.place file.seen.shown (finding_by (class_by
       (step_by (path_of_used first file.path) b (decides scripts file)) file.seen.found)))
-      (decides_by (λ (w : Words). w.value) (globs_of first) own file owned)
-      ∙ (ap (λ b. told_keys c.place file.seen.shown (told_by (class_by (step_by (path_of_used first file.path)
-      (list_any (λ (w : Words). is_decided_by file w.value) (globs_of first)) b) file.seen.found)))
+      (decides_by (λ (w : SpannedText). w.value) (globs_of first) own file owned)
+      ∙ (ap (λ b. finding_keys c.place file.seen.shown (finding_by (class_by (step_by (path_of_used first file.path)
+      (list_any (λ (w : SpannedText). is_decided_by file w.value) (globs_of first)) b) file.seen.found)))
       (decides_by (λ (e : ScriptGlob). e.text) l.building.extensions scripts file scripted)
-      ∙ (told_as c.place file.seen.shown (class_of l.building first file)
+      ∙ (finding_as c.place file.seen.shown (class_of l.building first file)
       ∙ ap (λ o. class_keys c.place file.seen.shown (class_of l.building o file)) is))
 
-  pub files_as : (kid : Kid) (files : List PackageFile)
-      → flat_map (met_keys own scripts c.place) (all_met first kid files) ≡ flat_map (file_keys l c) files
-  files_as kid files = flat_map-map (met_keys own scripts c.place) (met_by first kid) files
-      ∙ flat_map_on (λ file. met_keys own scripts c.place (met_by first kid file)) (file_keys l c) files
-      (λ file _. met_as kid file)
+  files_as : (kid : Kid) (files : List PackageFile)
+      → flat_map (matched_keys own scripts c.place) (all_matched first kid files) ≡ flat_map (file_keys l c) files
+  files_as kid files = flat_map-map (matched_keys own scripts c.place) (matched_by first kid) files
+      ∙ flat_map_on (λ file. matched_keys own scripts c.place (matched_by first kid file)) (file_keys l c) files
+      (λ file _. matched_as kid file)
 
--- ---- what no file meets
+-- ---- what matches no file
 
-pub missed_paths_as : (contents : Package) (place : ℕ) (y : Bypass) (kid : Kid)
-    → missed_path_keys place (all_met (Some y) kid contents.files) y.allow ≡ unmatched_path_keys contents place y
+missed_paths_as : (contents : Package) (place : ℕ) (y : Bypass) (kid : Kid)
+    → missed_path_keys place (all_matched (Some y) kid contents.files) y.allow ≡ unmatched_path_keys contents place y
 unfolding missed_path_keys unmatched_path_keys
 missed_paths_as contents place y kid =
-    ap (map (λ (a : AllowedPath). crate_key code.UnmatchedPathBypass place (path_range a)))
-    (filter_on (λ a. not (list_any (meets_path (path_range a)) (all_met (Some y) kid contents.files)))
+    ap (map (λ (a : AllowedPath). crate_key code.UnmatchedPathBypass place (path_span a)))
+    (filter_on (λ a. not (list_any (matches_path (path_span a)) (all_matched (Some y) kid contents.files)))
     (λ a. not (list_any (hits_path y a) contents.files)) y.allow
-    (λ a _. ap not (any-map (meets_path (path_range a)) (met_by (Some y) kid) contents.files
-    ∙ list_any_on (λ file. meets_path (path_range a) (met_by (Some y) kid file)) (hits_path y a) contents.files
-    (λ file _. meets_path_as y kid a file))))
+    (λ a _. ap not (any-map (matches_path (path_span a)) (matched_by (Some y) kid) contents.files
+    ∙ list_any_on (λ file. matches_path (path_span a) (matched_by (Some y) kid file)) (hits_path y a) contents.files
+    (λ file _. matches_path_as y kid a file))))
 
-pub missed_globs_as : (contents : Package) (place : ℕ) (y : Bypass) (kid : Kid)
-    → missed_glob_keys place (all_met (Some y) kid contents.files) y.globs ≡ unmatched_glob_keys contents place y
+missed_globs_as : (contents : Package) (place : ℕ) (y : Bypass) (kid : Kid)
+    → missed_glob_keys place (all_matched (Some y) kid contents.files) y.globs ≡ unmatched_glob_keys contents place y
 unfolding missed_glob_keys unmatched_glob_keys
-missed_globs_as contents place y kid = ap (map (λ (w : Words). crate_key code.UnmatchedGlob place w.span))
-    (filter_on (λ w. not (list_any (meets_glob w.value) (all_met (Some y) kid contents.files)))
+missed_globs_as contents place y kid = ap (map (λ (w : SpannedText). crate_key code.UnmatchedGlob place w.span))
+    (filter_on (λ w. not (list_any (matches_glob w.value) (all_matched (Some y) kid contents.files)))
     (λ w. not (list_any (hits_glob y w) contents.files)) y.globs
-    (λ w _. ap not (any-map (meets_glob w.value) (met_by (Some y) kid) contents.files
-    ∙ list_any_on (λ file. meets_glob w.value (met_by (Some y) kid file)) (hits_glob y w) contents.files
-    (λ file _. meets_glob_as y kid w file))))
+    (λ w _. ap not (any-map (matches_glob w.value) (matched_by (Some y) kid) contents.files
+    ∙ list_any_on (λ file. matches_glob w.value (matched_by (Some y) kid file)) (hits_glob y w) contents.files
+    (λ file _. matches_glob_as y kid w file))))
 
--- the globs at which no number stands are those that let no file pass
-pub missed_globs_by : (place : ℕ) (all : List MetFile) (firsts : TextFinMap ℕ) (globs : List Words)
-    → ((text : List ℕ) → IsFirstAt (meets_glob text) all (finite.get firsts text))
-    → map (λ (w : Words). crate_key code.UnmatchedGlob place w.span)
+-- the globs without an index in the map are those that match no file
+pub missed_globs_by : (place : ℕ) (all : List MatchedFile) (firsts : TextFinMap ℕ) (globs : List SpannedText)
+    → ((text : List ℕ) → IsFirstAt (matches_glob text) all (finite.get firsts text))
+    → map (λ (w : SpannedText). crate_key code.UnmatchedGlob place w.span)
     (filter (λ w. not (is_some (finite.get firsts w.value))) globs)
     ≡ missed_glob_keys place all globs
 unfolding missed_glob_keys
-missed_globs_by place all firsts globs first = ap (map (λ (w : Words). crate_key code.UnmatchedGlob place w.span))
-    (filter_on (λ w. not (is_some (finite.get firsts w.value))) (λ w. not (list_any (meets_glob w.value) all)) globs
-    (λ w _. ap not (none_found (meets_glob w.value) all (finite.get firsts w.value) (first w.value)
-    ∙ sym (find-any (meets_glob w.value) all))))
+missed_globs_by place all firsts globs first = ap (map (λ (w : SpannedText). crate_key code.UnmatchedGlob place w.span))
+    (filter_on (λ w. not (is_some (finite.get firsts w.value))) (λ w. not (list_any (matches_glob w.value) all)) globs
+    (λ w _. ap not (none_found (matches_glob w.value) all (finite.get firsts w.value) (first w.value)
+    ∙ sym (find-any (matches_glob w.value) all))))
 
--- the same of the paths at whose range no number stands
-pub missed_paths_by : (place : ℕ) (all : List MetFile) (firsts : BTreeMap Span ℕ) (paths : List AllowedPath)
-    → ((range : Span) → IsFirstAt (meets_path range) all (number_at firsts range))
-    → map (λ (a : AllowedPath). crate_key code.UnmatchedPathBypass place (path_range a))
-    (filter (λ a. not (is_path_met firsts a)) paths) ≡ missed_path_keys place all paths
-unfolding missed_path_keys is_path_met
+-- the paths without an index in the map are those that match no file
+pub missed_paths_by : (place : ℕ) (all : List MatchedFile) (firsts : BTreeMap Span ℕ) (paths : List AllowedPath)
+    → ((span : Span) → IsFirstAt (matches_path span) all (number_at firsts span))
+    → map (λ (a : AllowedPath). crate_key code.UnmatchedPathBypass place (path_span a))
+    (filter (λ a. not (is_path_matched firsts a)) paths) ≡ missed_path_keys place all paths
+unfolding missed_path_keys is_path_matched
 missed_paths_by place all firsts paths first =
-    ap (map (λ (a : AllowedPath). crate_key code.UnmatchedPathBypass place (path_range a)))
-    (filter_on (λ a. not (is_some (number_at firsts (path_range a))))
-    (λ a. not (list_any (meets_path (path_range a)) all)) paths
-    (λ a _. ap not (none_found (meets_path (path_range a)) all (number_at firsts (path_range a)) (first (path_range a))
-    ∙ sym (find-any (meets_path (path_range a)) all))))
+    ap (map (λ (a : AllowedPath). crate_key code.UnmatchedPathBypass place (path_span a)))
+    (filter_on (λ a. not (is_some (number_at firsts (path_span a))))
+    (λ a. not (list_any (matches_path (path_span a)) all)) paths
+    (λ a _. ap not (none_found (matches_path (path_span a)) all (number_at firsts (path_span a)) (first (path_span a))
+    ∙ sym (find-any (matches_path (path_span a)) all))))
 
 missed_as : (contents : Package) (place : ℕ) (kid : Kid) (first : Option Bypass)
-    → option_map_or (missed_keys place (all_met first kid contents.files)) first []
+    → option_map_or (missed_keys place (all_matched first kid contents.files)) first []
     ≡ option_map_or (λ y. unmatched_path_keys contents place y ++ unmatched_glob_keys contents place y) first []
 missed_as contents place kid None = refl
 missed_as contents place kid (Some y) =
-    ap (λ keys. keys ++ missed_glob_keys place (all_met (Some y) kid contents.files) y.globs)
+    ap (λ keys. keys ++ missed_glob_keys place (all_matched (Some y) kid contents.files) y.globs)
     (missed_paths_as contents place y kid)
     ∙ ap (λ keys. unmatched_path_keys contents place y ++ keys) (missed_globs_as contents place y kid)
 
--- ---- a crate that is walked
+-- ---- a walked crate
 
-walked_by : (l : Looking) (c : Crate) (first : Option Bypass) (own scripts : TextFinMap Bool) (kid : Kid)
+walked_by : (l : Scanning) (c : Crate) (first : Option Bypass) (own scripts : TextFinMap Bool) (kid : Kid)
     → first ≡ used l.building c → IsSetOf (own_texts first) own → IsSetOf (script_texts l.building) scripts
     → map (folder_key c.place) (package_of l c).unlisted
-    ++ (flat_map (met_keys own scripts c.place) (all_met first kid (package_of l c).files)
-    ++ option_map_or (missed_keys c.place (all_met first kid (package_of l c).files)) first []) ≡ walked_keys l c
+    ++ (flat_map (matched_keys own scripts c.place) (all_matched first kid (package_of l c).files)
+    ++ option_map_or (missed_keys c.place (all_matched first kid (package_of l c).files)) first []) ≡ walked_keys l c
 unfolding walked_keys unmatched_keys
 walked_by l c first own scripts kid is owned scripted =
     ap (λ keys. map (folder_key c.place) (package_of l c).unlisted
-    ++ (keys ++ option_map_or (missed_keys c.place (all_met first kid (package_of l c).files)) first []))
+    ++ (keys ++ option_map_or (missed_keys c.place (all_matched first kid (package_of l c).files)) first []))
     (files_as l c first is own scripts owned scripted kid (package_of l c).files)
     ∙ ap (λ keys. map (folder_key c.place) (package_of l c).unlisted
     ++ (flat_map (file_keys l c) (package_of l c).files ++ keys))
@@ -202,19 +209,20 @@ walked_by l c first own scripts kid is owned scripted =
     (λ y. unmatched_path_keys (package_of l c) c.place y ++ unmatched_glob_keys (package_of l c) c.place y) o [])
     is)
 
-pub walked_are : (l : Looking) (c : Crate) (first : Option Bypass) (own scripts : TextFinMap Bool) (kid : Kid)
+pub walked_are : (l : Scanning) (c : Crate) (first : Option Bypass) (own scripts : TextFinMap Bool) (kid : Kid)
     (contents : Package)
-    (unlisted : List Seen) (files : List MetFile) → first ≡ used l.building c → IsSetOf (own_texts first) own
+    (unlisted : List Seen) (files : List MatchedFile) → first ≡ used l.building c → IsSetOf (own_texts first) own
     → IsSetOf (script_texts l.building) scripts → contents ≡ package_of l c → unlisted ≡ contents.unlisted
-    → files ≡ all_met first kid contents.files
-    → map (folder_key c.place) unlisted ++ (flat_map (met_keys own scripts c.place) files
+    → files ≡ all_matched first kid contents.files
+    → map (folder_key c.place) unlisted ++ (flat_map (matched_keys own scripts c.place) files
     ++ option_map_or (missed_keys c.place files) first []) ≡ walked_keys l c
-walked_are l c first own scripts kid contents unlisted files is owned scripted same folders met =
-    ap (λ (us : List Seen). map (folder_key c.place) us ++ (flat_map (met_keys own scripts c.place) files
+walked_are l c first own scripts kid contents unlisted files is owned scripted same folders matched =
+    ap (λ (us : List Seen). map (folder_key c.place) us ++ (flat_map (matched_keys own scripts c.place) files
     ++ option_map_or (missed_keys c.place files) first [])) (folders ∙ ap (λ (p : Package). p.unlisted) same)
-    ∙ (ap (λ (ms : List MetFile). map (folder_key c.place) (package_of l c).unlisted
-    ++ (flat_map (met_keys own scripts c.place) ms
-    ++ option_map_or (missed_keys c.place ms) first [])) (met ∙ ap (λ (p : Package). all_met first kid p.files) same)
+    ∙ (ap (λ (ms : List MatchedFile). map (folder_key c.place) (package_of l c).unlisted
+    ++ (flat_map (matched_keys own scripts c.place) ms
+    ++ option_map_or (missed_keys c.place ms) first [])) (matched
+    ∙ ap (λ (p : Package). all_matched first kid p.files) same)
     ∙ walked_by l c first own scripts kid is owned scripted)
 
 pub joined : {T : Type 0} (a b d : List T) (all new mid last : List T) → mid ≡ all ++ a → last ≡ mid ++ b

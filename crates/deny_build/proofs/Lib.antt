@@ -1,5 +1,5 @@
 pub mod HitLemmas
 pub mod KeyLemmas
-pub mod LookedLemmas
-pub mod MetLemmas
+pub mod MatchLemmas
+pub mod ScanLemmas
 pub mod SetLemmas

@@ -1,4 +1,4 @@
--- Sets of texts, and maps from texts to the first that has them.
+-- Sets of texts, and maps from texts to the index of the first file.
 use Rattle.std.proofs.Common.{◌≡◌, ◌∙◌, ◌++◌, ◌∷◌, [], ℕ, ◌+◌, ◌<◌, ◌≤◌, Bool, true, false, List, Option, Some, None}
 use Rattle.std.proofs.Common.{get_or, is_some, length, map, refl, subst, sym, take, ap}
 use Rattle.std.specs.Prelude.{◌||◌, cond}
@@ -9,16 +9,16 @@ use Rattle.std.specs.Option.{option_or}
 use Rattle.std.specs.Ordering.{nat_cmp}
 use Rattle.std.proofs.lemmas.List.{map-append, take_all, take_more}
 use Rattle.std.proofs.lemmas.List.Folds.{list_any-append}
-use Rattle.deny_lists.proofs.Filters.{none_or, some_or}
-use Rattle.deny_lists.proofs.Agreement.{list_any_on}
-use Rattle.deny_lists.proofs.Booleans.{tests_agree, or-false}
-use Rattle.deny_lists.proofs.Members.{any_from, any_passes}
-use Rattle.deny_lists.specs.TextMap.{TextFinMap}
-use Rattle.deny_lists.proofs.Options.{option_or-none}
-use Rattle.deny_build_model.specs.declared.package.PackageFile.{PackageFile}
-use Rattle.deny_codes.specs.PackageFiles.{is_decided_by}
-use Rattle.deny_model.specs.Text.{same_text}
-use Rattle.deny_model.proofs.Texts.{one_text_more}
+use Rattle.deny_base_lists.proofs.Filters.{none_or, some_or}
+use Rattle.deny_base_lists.proofs.Agreement.{list_any_on}
+use Rattle.deny_base_lists.proofs.Booleans.{tests_agree, or-false}
+use Rattle.deny_base_lists.proofs.Members.{any_from, any_passes}
+use Rattle.deny_base_lists.specs.TextMap.{TextFinMap}
+use Rattle.deny_base_lists.proofs.Options.{option_or-none}
+use Rattle.deny_spec.specs.declared.package.PackageFile.{PackageFile}
+use Rattle.deny_spec_report.specs.PackageFiles.{is_decided_by}
+use Rattle.deny_spec.specs.Text.{same_text}
+use Rattle.deny_spec.proofs.Texts.{one_text_more}
 use Rattle.deny_build.specs.private.Globs.{IsSetOf, decides}
 
 pub nothing_at : {V : Type 0} (text : List ℕ) → finite.get (finite.empty {X = V} {R = slice_cmp nat_cmp}) text ≡ None
@@ -26,7 +26,7 @@ nothing_at text = finite.get-empty (slice_cmp nat_cmp) text
 
 -- ---- sets
 
--- ---- which of two lists has one of the other
+-- ---- two lists have a common text, in either order
 
 same_back : (a b : List ℕ) → same_text a b ≡ true → same_text b a ≡ true
 same_back a b same = (bytes_decides b a).1 (sym ((bytes_decides a b).0 same))
@@ -39,7 +39,7 @@ any_both xs ys is =
     any_from (λ (y : List ℕ). list_any (same_text y) xs) ys other.one other.member
     (any_from (same_text other.one) xs one.one one.member (same_back one.one other.one other.passes))
 
-pub any_swapped : (xs ys : List (List ℕ)) → list_any (λ x. list_any (same_text x) ys) xs
+any_swapped : (xs ys : List (List ℕ)) → list_any (λ x. list_any (same_text x) ys) xs
     ≡ list_any (λ y. list_any (same_text y) xs) ys
 any_swapped xs ys = tests_agree (list_any (λ (x : List ℕ). list_any (same_text x) ys) xs)
     (list_any (λ (y : List ℕ). list_any (same_text y) xs) ys) (any_both xs ys) (any_both ys xs)
@@ -49,7 +49,7 @@ pub any-map : {X Y : Type 0} (p : Y → Bool) (f : X → Y) (xs : List X)
 any-map p f [] = refl
 any-map p f (x ∷ xs) = ap (λ b. p (f x) || b) (any-map p f xs)
 
--- a set of the texts of globs says whether one of these decides of a file
+-- a file is decided by one of these globs exactly where the set of their texts says so
 pub decides_by : {X : Type 0} (text_of : X → List ℕ) (globs : List X) (set : TextFinMap Bool) (file : PackageFile)
     → IsSetOf (map text_of globs) set → decides set file ≡ list_any (λ x. is_decided_by file (text_of x)) globs
 unfolding is_decided_by
@@ -60,7 +60,7 @@ decides_by {X} text_of globs set file of =
     ∙ (any_swapped file.globs (map text_of globs)
     ∙ any-map (λ (text : List ℕ). list_any (same_text text) file.globs) text_of globs)
 
--- one more element of a list that a loop goes over
+-- a set of texts with one more text of the list
 pub one_text_taken : {X : Type 0} (text_of : X → List ℕ) (xs : List X) (x : X) (i : ℕ) (set : TextFinMap Bool)
     (text : List ℕ) → i < length xs → x ≡ get_or xs i x → text ≡ text_of x → IsSetOf (map text_of (take i xs)) set
     → IsSetOf (map text_of (take (i + 1) xs)) (finite.insert set text true)
@@ -77,7 +77,7 @@ pub all_texts_taken : {X : Type 0} (text_of : X → List ℕ) (xs : List X) (i :
 all_texts_taken text_of xs i set texts past are before =
     subst (λ (ts : List (List ℕ)). IsSetOf ts set) (ap (map text_of) (take_all i xs past) ∙ are) before
 
--- ---- what is put only where there is nothing
+-- ---- an entry is put only where there is none
 
 pub kept_at : (firsts : TextFinMap ℕ) (glob text : List ℕ) (n : ℕ) → is_some (finite.get firsts glob) ≡ true
     → finite.get firsts text ≡ option_or (finite.get firsts text) (cond (same_text text glob) (Some n) None)

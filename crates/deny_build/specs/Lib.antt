@@ -1,3 +1,3 @@
 -- What the contracts of this crate cite.
-pub mod LookingOf
+pub mod ScanningOf
 pub mod private

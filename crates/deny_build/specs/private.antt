@@ -1,9 +1,9 @@
 pub mod Denied
+pub mod FileMatch
 pub mod Files
 pub mod Globs
 pub mod Hits
-pub mod Looked
-pub mod Met
+pub mod ScannedKrates
 pub mod Unmatched
 pub mod Users
 pub mod UsersOf

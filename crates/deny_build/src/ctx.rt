@@ -1,16 +1,16 @@
-//! What the build check looks at.
+//! The context of the build check.
 ghost use Rattle.std.specs.Prelude.{◌≡◌};
-ghost use Rattle.deny_build_model.specs.Unseen.{package_at, unseen_package};
+ghost use Rattle.deny_spec.specs.Unseen.{package_at, unseen_package};
 
-use deny_build_cfg::ValidBuildConfig;
-use deny_build_model::Package;
-use deny_bypasses::Checking;
+use deny_base_lists::List;
+use deny_build_bypass::Checking;
+use deny_cfg_build::ValidBuildConfig;
 use deny_krates::{Krate, Krates};
-use deny_lists::List;
+use deny_spec::Package;
 use std::alloc::Global;
 
-/// What the build check looks at: a policy, a graph, a mark for each crate that leads to what executes at build time,
-/// and what was seen of each crate's package, by places.
+/// The context of the build check: its configuration, the graph, for each place a mark whether the
+/// crate leads to one that executes at build time, and what was seen of its package.
 #[derive(Clone, Copy)]
 pub struct BuildCtx<'a> {
     pub config: &'a ValidBuildConfig,
@@ -20,7 +20,7 @@ pub struct BuildCtx<'a> {
 }
 
 impl<'a> BuildCtx<'a> {
-    /// What tells which crates are looked at.
+    /// What decides whether a crate is checked.
     pub(crate) fn checking(&self) -> Checking<'a>
         ensures config { result.config.now ≡ self.now.config.now }
         ensures krates { result.krates.now ≡ self.now.krates.now }
@@ -34,7 +34,7 @@ impl<'a> BuildCtx<'a> {
     }
 }
 
-/// A package of which nothing was seen.
+/// The package of a crate that was not scanned.
 pub(crate) fn unseen_package(alloc: Global) -> Package
     ensures { result ≡ unseen_package }
 {
@@ -45,7 +45,7 @@ pub(crate) fn unseen_package(alloc: Global) -> Package
     }
 }
 
-/// What was seen of the package at a place.
+/// The package of the crate at a place, as it was seen.
 pub(crate) fn package_at<'p>(
     packages: &'p [Package],
     place: u32,

@@ -1,30 +1,30 @@
-//! The older key of the list of crates that may have a build script.
+//! The deprecated key for the list of crates that may have a build script.
 ghost use Rattle.std.specs.Prelude.{◌≡◌, Contains, OnOk};
-ghost use Rattle.deny_build_cfg.specs.BuildingView.{building_view};
-ghost use Rattle.deny_codes.specs.Packages.{deprecated_key, deprecated_keys};
-ghost use Rattle.deny_lists.specs.Ascending.{Adds};
+ghost use Rattle.deny_cfg_build.specs.BuildingView.{building_view};
+ghost use Rattle.deny_spec_report.specs.Packages.{deprecated_key, deprecated_keys};
+ghost use Rattle.deny_base_lists.specs.Ascending.{Adds};
 
 use deny_base::{DiagnosticCode, Key, Section, Span};
-use deny_build_cfg::ValidBuildConfig;
-use deny_lists::{List, NoMemory, Text};
+use deny_base_lists::{List, NoMemory};
+use deny_cfg_build::ValidBuildConfig;
+use deny_spec::key_of;
 use std::alloc::Global;
 
-#[tactic(auto, unfolding(deny_codes::specs::Packages::deprecated_key))]
-fn deprecated_key(alloc: Global, range: Span) -> Key
-    ensures { result ≡ deprecated_key range }
+#[tactic(auto, unfolding(deny_spec_report::specs::Packages::deprecated_key))]
+fn deprecated_key(alloc: Global, span: Span) -> Key
+    ensures { result ≡ deprecated_key span }
 {
-    Key {
-        section: Section::Deprecated,
-        place: 0,
-        code: DiagnosticCode::Deprecated,
-        entry: range,
-        text: Text::new(alloc),
-        other: 0,
-        places: List::new(alloc),
-    }
+    key_of(
+        alloc,
+        Section::Deprecated,
+        DiagnosticCode::Deprecated,
+        0,
+        span,
+    )
 }
 
-/// Adds the key of the list of crates that may have a build script, where its older key stands for the table `build`.
+/// Adds a key where the policy writes the list of crates that may have a build script under its
+/// deprecated key.
 pub fn add_deprecated_keys(
     alloc: Global,
     config: &ValidBuildConfig,
@@ -33,7 +33,7 @@ pub fn add_deprecated_keys(
     ensures { OnOk result (Adds (Contains (deprecated_keys (building_view config.now))) keys.old keys.new) }
 {
     match config.older_key {
-        Some(range) => keys.push(deprecated_key(alloc, range)),
+        Some(span) => keys.push(deprecated_key(alloc, span)),
         None => Ok(()),
     }
 }

@@ -1,19 +1,18 @@
-//! The globs of a policy, by their texts.
+//! The globs of a policy by their texts.
 ghost use Rattle.std.specs.Prelude.{◌≡◌, IfOk, is_some, map, option_map};
 ghost use Rattle.std.specs.FinMap as finite;
 ghost use Rattle.std.specs.List.{list_any};
-ghost use Rattle.deny_build_cfg.specs.BuildingView.{building_view, bypass_view, words_of};
-ghost use Rattle.deny_build_cfg.specs.Globs.{extension_text};
-ghost use Rattle.deny_codes.specs.PackageFiles.{globs_of};
+ghost use Rattle.deny_cfg_build.specs.BuildingView.{building_view, bypass_view, words_of};
+ghost use Rattle.deny_spec_report.specs.PackageFiles.{globs_of};
 ghost use Rattle.deny_build.specs.private.Globs.{IsSetOf, decides, own_texts, script_texts};
 
 use deny_base::Spanned;
-use deny_build_cfg::{GlobPattern, ValidBuildConfig, ValidBypass};
-use deny_build_model::PackageFile;
-use deny_lists::{NoMemory, Text, TextMap};
+use deny_base_lists::{NoMemory, Text, TextMap};
+use deny_cfg_build::{GlobPattern, ValidBuildConfig, ValidBypass};
+use deny_spec::PackageFile;
 use std::alloc::Global;
 
-/// The text of a pattern, with its range.
+/// The text of a pattern with its span.
 pub fn words_of(pattern: &GlobPattern) -> &Spanned<Text>
     ensures { result.now ≡ words_of pattern.now }
 {
@@ -42,7 +41,7 @@ fn globs_if(bypass: Option<&ValidBypass>) -> &[GlobPattern]
     }
 }
 
-/// The set of the globs of a bypass, by their texts.
+/// The set of the texts of a bypass's globs.
 pub fn own_set(alloc: Global, bypass: Option<&ValidBypass>) -> Result<TextMap<bool>, NoMemory>
     ensures { IfOk result (IsSetOf (own_texts (option_map (λ y. bypass_view y.now) bypass.entry))) }
 {
@@ -54,33 +53,19 @@ pub fn own_set(alloc: Global, bypass: Option<&ValidBypass>) -> Result<TextMap<bo
     Ok(set)
 }
 
-/// The text of the glob of files that count as scripts.
-fn extension_text(alloc: Global, pattern: &GlobPattern) -> Result<Text, NoMemory>
-    ensures { IfOk result (λ text. text ≡ extension_text pattern.now) }
-{
-    match pattern {
-        GlobPattern::Builtin((glob, _)) => Ok(glob.value.clone()?),
-        GlobPattern::User(extension) => {
-            let mut text = Text::from_str(alloc, "*.")?;
-            text.push_str(extension.value.as_str())?;
-            Ok(text)
-        }
-    }
-}
-
-/// The set of the globs of files that count as scripts, by their texts.
+/// The set of the texts of the globs of script extensions.
 pub fn script_set(alloc: Global, config: &ValidBuildConfig) -> Result<TextMap<bool>, NoMemory>
     ensures { IfOk result (IsSetOf (script_texts (building_view config.now))) }
 {
     let globs = config.script_extensions.patterns.as_slice();
     let mut set = TextMap::new(alloc);
     for pattern in globs {
-        set.insert(extension_text(alloc, pattern)?, true)?;
+        set.insert(pattern.extension_text(alloc)?, true)?;
     }
     Ok(set)
 }
 
-/// Whether one of the globs of a set decides of a file.
+/// Whether a file is decided by one of the globs of a set.
 pub fn decides(set: &TextMap<bool>, file: &PackageFile) -> bool
     ensures { result ≡ decides set.now file.now }
 {

@@ -1,70 +1,70 @@
-//! The hits of what lets files pass.
+//! The hits of bypasses, and of their paths and globs.
 ghost use Rattle.std.specs.Prelude.{◌≡◌, ◌++◌, IfOk, OnOk, find, map, option_map, slice_get};
 ghost use Rattle.std.specs.FinMap as finite;
 ghost use Rattle.std.specs.List.{flat_map};
 ghost use Rattle.std.specs.Option.{option_copied};
 ghost use Rattle.deny_base.specs.declared.entry.EntryKind.TheVariants.{Bypass};
 ghost use Rattle.deny_base.specs.declared.entry.Witness.TheVariants.{Krate};
-ghost use Rattle.deny_build_cfg.specs.BuildingView.{bypass_view, path_view, words_of};
-ghost use Rattle.deny_build_model.specs.Unseen.{unseen_package};
-ghost use Rattle.deny_codes.specs.Packages.{bypass_hit, bypass_hits, bypass_hits_of, if_hit};
-ghost use Rattle.deny_model.specs.Graph.{kid_of};
-ghost use Rattle.deny_model.specs.Hits.{hit_of};
-ghost use Rattle.deny_build.specs.LookingOf.{looking_of};
+ghost use Rattle.deny_cfg_build.specs.BuildingView.{bypass_view, path_view, words_of};
+ghost use Rattle.deny_spec.specs.Unseen.{unseen_package};
+ghost use Rattle.deny_spec_report.specs.Packages.{bypass_hit, bypass_hits, bypass_hits_of, if_hit};
+ghost use Rattle.deny_spec.specs.Graph.{kid_of};
+ghost use Rattle.deny_spec.specs.Hits.{hit_of};
+ghost use Rattle.deny_build.specs.ScanningOf.{scanning_of};
 ghost use Rattle.deny_build.specs.private.Hits.{glob_hit_in, hit_by, path_hit_in};
-ghost use Rattle.deny_build.specs.private.Looked.{krate_of, looked_view};
-ghost use Rattle.deny_build.specs.private.Met.{IsFirstAt, meets_glob, meets_path, met_view, number_at};
-ghost use Rattle.deny_build.specs.private.Users.{met_of_users, met_walked};
+ghost use Rattle.deny_build.specs.private.ScannedKrates.{krate_of, scanned_view};
+ghost use Rattle.deny_build.specs.private.FileMatch.{IsFirstAt, matches_glob, matches_path, matched_view, number_at};
+ghost use Rattle.deny_build.specs.private.Users.{matched_of_users, matched_walked};
 ghost use Rattle.deny_build.specs.private.UsersOf.{AreUsers};
 
 use crate::ctx::{BuildCtx, unseen_package};
 use crate::glob_texts::{globs_of, words_of};
-use crate::looked::Looked;
-use crate::looking::look_at_each;
-use crate::met::{Met, firsts_by_glob, firsts_by_path, meet};
+use crate::matched::{FileMatch, firsts_by_glob, firsts_by_path, match_files};
+use crate::scanned_krate::ScannedKrate;
+use crate::scanning::scan_each;
 use crate::users::{Users, first_user, users_of};
 use deny_base::{EntryId, EntryKind, Hit, Span, Spanned, Witness};
-use deny_build_cfg::{GlobPattern, ValidBypass};
-use deny_build_model::Package;
-use deny_bypasses::Allowed;
-use deny_lists::{List, NoMemory, Text, TextMap};
-use deny_tables::bans::cfg::BypassPath;
+use deny_base_lists::{List, NoMemory, Text, TextMap};
+use deny_build_bypass::Allowed;
+use deny_cfg_build::{GlobPattern, ValidBypass};
+use deny_cfg_tables::bans::cfg::BypassPath;
+use deny_spec::Package;
 use std::alloc::Global;
 use std::collections::BTreeMap;
 
-fn hit_by(kind: EntryKind, range: Span, met: &Met<'_>) -> Result<Hit, NoMemory>
-    ensures { IfOk result (λ hit. hit ≡ hit_by kind range (met_view met.now)) }
+fn hit_by(kind: EntryKind, span: Span, matched: &FileMatch<'_>) -> Result<Hit, NoMemory>
+    ensures { IfOk result (λ hit. hit ≡ hit_by kind span (matched_view matched.now)) }
 {
     Ok(Hit {
-        entry: EntryId { kind, range },
+        entry: EntryId { kind, range: span },
         witness: Witness::File {
-            krate: met.kid.clone()?,
-            path: met.file.path.clone()?,
+            krate: matched.kid.clone()?,
+            path: matched.file.path.clone()?,
         },
     })
 }
 
-fn krate_hit(range: Span, at: &Looked<'_>) -> Result<Hit, NoMemory>
-    ensures { IfOk result (λ hit. hit ≡ hit_of Bypass range (Krate (kid_of (krate_of at.now)))) }
+fn krate_hit(span: Span, at: &ScannedKrate<'_>) -> Result<Hit, NoMemory>
+    ensures { IfOk result (λ hit. hit ≡ hit_of Bypass span (Krate (kid_of (krate_of at.now)))) }
 {
     Ok(Hit {
         entry: EntryId {
             kind: EntryKind::Bypass,
-            range,
+            range: span,
         },
         witness: Witness::Krate(at.krate.id.clone()?),
     })
 }
 
-/// Adds the hit of a bypass, by the first crate that is looked at and uses it.
+/// Adds the hit of a bypass, by the first checked crate that uses it.
 fn add_bypass_hit(
     _ctx: &BuildCtx<'_>,
     users: &Users<'_, '_>,
     bypass: &ValidBypass,
     hits: &mut List<Hit>,
 ) -> Result<(), NoMemory>
-    requires { AreUsers (looking_of _ctx.now) users.now }
-    ensures { OnOk result (hits.new ≡ hits.old ++ if_hit (bypass_hit (looking_of _ctx.now) (bypass_view bypass.now))) }
+    requires { AreUsers (scanning_of _ctx.now) users.now }
+    ensures { OnOk result (hits.new ≡ hits.old ++ if_hit (bypass_hit (scanning_of _ctx.now) (bypass_view bypass.now))) }
 {
     match first_user(users, bypass) {
         Some(at) => hits.push(krate_hit(bypass.spec.name.span, at)?),
@@ -72,92 +72,94 @@ fn add_bypass_hit(
     }
 }
 
-/// Puts the files of a crate behind others, as a bypass speaks of them, if the crate is walked.
-#[tactic(auto, unfolding(crate::specs::private::Users::met_walked))]
-fn meet_walked<'a>(
+/// Appends the files of a crate with the paths of a bypass that match them, if the crate is walked.
+#[tactic(auto, unfolding(crate::specs::private::Users::matched_walked))]
+fn match_walked<'a>(
     alloc: Global,
-    at: &Looked<'a>,
+    at: &ScannedKrate<'a>,
     bypass: &'a ValidBypass,
-    met: &mut Vec<Met<'a>>,
+    matched: &mut Vec<FileMatch<'a>>,
 ) -> Result<(), NoMemory>
-    ensures { OnOk result (map met_view met.new.items
-        ≡ map met_view met.old.items ++ met_walked (bypass_view bypass.now) (looked_view at.now)) }
+    ensures { OnOk result (map matched_view matched.new.items
+        ≡ map matched_view matched.old.items ++ matched_walked (bypass_view bypass.now) (scanned_view at.now)) }
 {
     if at.walked {
         let allowed = Allowed::new(alloc, Some(bypass))?;
         let files = at.contents.files.as_slice();
-        return meet(alloc, &allowed, &at.krate.id, files, met);
+        return match_files(alloc, &allowed, &at.krate.id, files, matched);
     }
     Ok(())
 }
 
-/// The files of those of some crates that are walked, as a bypass speaks of them.
-fn met_of_group<'a>(
+/// The files of the walked ones of some crates, with the paths of a bypass that match them.
+fn matched_of_group<'a>(
     alloc: Global,
-    group: &[&Looked<'a>],
+    group: &[&ScannedKrate<'a>],
     bypass: &'a ValidBypass,
-) -> Result<Vec<Met<'a>>, NoMemory>
-    ensures { IfOk result (λ met. map met_view met.items
-        ≡ flat_map (met_walked (bypass_view bypass.now)) (map (λ at. looked_view at.now) group.now)) }
+) -> Result<Vec<FileMatch<'a>>, NoMemory>
+    ensures { IfOk result (λ matched. map matched_view matched.items
+        ≡ flat_map (matched_walked (bypass_view bypass.now)) (map (λ at. scanned_view at.now) group.now)) }
 {
-    let mut met = Vec::new(alloc);
+    let mut matched = Vec::new(alloc);
     for at in group {
-        meet_walked(alloc, at, bypass, &mut met)?;
+        match_walked(alloc, at, bypass, &mut matched)?;
     }
-    Ok(met)
+    Ok(matched)
 }
 
-/// The files of all crates that are walked and use a bypass, in the order of the crates.
-fn met_of_users<'a>(
+/// The files of all walked crates that use a bypass, in the order of the crates.
+fn matched_of_users<'a>(
     alloc: Global,
     _ctx: &BuildCtx<'_>,
     users: &Users<'_, 'a>,
     bypass: &'a ValidBypass,
-) -> Result<Vec<Met<'a>>, NoMemory>
-    requires { AreUsers (looking_of _ctx.now) users.now }
-    ensures { IfOk result (λ met. map met_view met.items ≡ met_of_users (looking_of _ctx.now) (bypass_view bypass.now)) }
+) -> Result<Vec<FileMatch<'a>>, NoMemory>
+    requires { AreUsers (scanning_of _ctx.now) users.now }
+    ensures { IfOk result (λ matched. map matched_view matched.items
+        ≡ matched_of_users (scanning_of _ctx.now) (bypass_view bypass.now)) }
 {
     match users.of(bypass) {
-        Some(group) => met_of_group(alloc, group.as_slice(), bypass),
+        Some(group) => matched_of_group(alloc, group.as_slice(), bypass),
         None => Ok(Vec::new(alloc)),
     }
 }
 
-fn nth_met<'m, 'a>(met: &'m [Met<'a>], number: usize) -> Option<&'m Met<'a>>
-    ensures { option_copied result ≡ slice_get met.now number }
+fn nth_match<'m, 'a>(matched: &'m [FileMatch<'a>], number: usize) -> Option<&'m FileMatch<'a>>
+    ensures { option_copied result ≡ slice_get matched.now number }
 {
-    met.get(number)
+    matched.get(number)
 }
 
-/// The first of some files of which the allowed path of a range speaks, by the numbers of such files.
+/// The first file that the allowed path of a span matches; `firsts` has its index.
 fn first_by_path<'m, 'a>(
-    range: Span,
-    met: &'m [Met<'a>],
+    span: Span,
+    matched: &'m [FileMatch<'a>],
     firsts: &BTreeMap<Span, usize>,
-) -> Option<&'m Met<'a>>
-    requires { IsFirstAt (meets_path range) (map met_view met.now) (number_at firsts.now range) }
-    ensures { option_map met_view (option_copied result) ≡ find (meets_path range) (map met_view met.now) }
+) -> Option<&'m FileMatch<'a>>
+    requires { IsFirstAt (matches_path span) (map matched_view matched.now) (number_at firsts.now span) }
+    ensures { option_map matched_view (option_copied result) ≡ find (matches_path span) (map matched_view matched.now) }
 {
-    match firsts.get(&range) {
-        Some(number) => nth_met(met, *number),
+    match firsts.get(&span) {
+        Some(number) => nth_match(matched, *number),
         None => None,
     }
 }
 
-/// Adds the hit of a path that speaks of files, by the first of them.
+/// Adds the hit of an allowed path, by the first file that it matches.
 fn add_path_hit(
     path: &BypassPath,
-    met: &[Met<'_>],
+    matched: &[FileMatch<'_>],
     firsts: &BTreeMap<Span, usize>,
     hits: &mut List<Hit>,
 ) -> Result<(), NoMemory>
-    requires { IsFirstAt (meets_path path.now.path.span) (map met_view met.now)
+    requires { IsFirstAt (matches_path path.now.path.span) (map matched_view matched.now)
         (number_at firsts.now path.now.path.span) }
-    ensures { OnOk result (hits.new ≡ hits.old ++ if_hit (path_hit_in (map met_view met.now) (path_view path.now))) }
+    ensures { OnOk result (hits.new ≡ hits.old ++ if_hit (path_hit_in (map matched_view matched.now)
+        (path_view path.now))) }
 {
-    let range = path.path.span;
-    match first_by_path(range, met, firsts) {
-        Some(first) => hits.push(hit_by(EntryKind::BypassPath, range, first)?),
+    let span = path.path.span;
+    match first_by_path(span, matched, firsts) {
+        Some(first) => hits.push(hit_by(EntryKind::BypassPath, span, first)?),
         None => Ok(()),
     }
 }
@@ -165,46 +167,47 @@ fn add_path_hit(
 fn add_path_hits(
     alloc: Global,
     paths: &[BypassPath],
-    met: &[Met<'_>],
+    matched: &[FileMatch<'_>],
     hits: &mut List<Hit>,
 ) -> Result<(), NoMemory>
     ensures { OnOk result (hits.new
-        ≡ hits.old ++ flat_map (λ a. if_hit (path_hit_in (map met_view met.now) a)) (map path_view paths.now)) }
+        ≡ hits.old ++ flat_map (λ a. if_hit (path_hit_in (map matched_view matched.now) a)) (map path_view paths.now)) }
 {
-    let firsts = firsts_by_path(alloc, met)?;
+    let firsts = firsts_by_path(alloc, matched)?;
     for path in paths {
-        add_path_hit(path, met, &firsts, hits)?;
+        add_path_hit(path, matched, &firsts, hits)?;
     }
     Ok(())
 }
 
-/// The first of some files that a glob lets pass, by the numbers of such files.
+/// The first file that a glob lets pass; `firsts` has its index.
 fn first_by_glob<'m, 'a>(
     glob: &Text,
-    met: &'m [Met<'a>],
+    matched: &'m [FileMatch<'a>],
     firsts: &TextMap<usize>,
-) -> Option<&'m Met<'a>>
-    requires { IsFirstAt (meets_glob glob.now) (map met_view met.now) (finite.get firsts.now glob.now) }
-    ensures { option_map met_view (option_copied result) ≡ find (meets_glob glob.now) (map met_view met.now) }
+) -> Option<&'m FileMatch<'a>>
+    requires { IsFirstAt (matches_glob glob.now) (map matched_view matched.now) (finite.get firsts.now glob.now) }
+    ensures { option_map matched_view (option_copied result) ≡ find (matches_glob glob.now)
+        (map matched_view matched.now) }
 {
     match firsts.get(glob.as_str()) {
-        Some(number) => nth_met(met, *number),
+        Some(number) => nth_match(matched, *number),
         None => None,
     }
 }
 
-/// Adds the hit of a glob that lets files pass, by the first of them.
+/// Adds the hit of a glob, by the first file that it lets pass.
 fn add_glob_hit(
     glob: &Spanned<Text>,
-    met: &[Met<'_>],
+    matched: &[FileMatch<'_>],
     firsts: &TextMap<usize>,
     hits: &mut List<Hit>,
 ) -> Result<(), NoMemory>
-    requires { IsFirstAt (meets_glob glob.now.value) (map met_view met.now)
+    requires { IsFirstAt (matches_glob glob.now.value) (map matched_view matched.now)
         (finite.get firsts.now glob.now.value) }
-    ensures { OnOk result (hits.new ≡ hits.old ++ if_hit (glob_hit_in (map met_view met.now) glob.now)) }
+    ensures { OnOk result (hits.new ≡ hits.old ++ if_hit (glob_hit_in (map matched_view matched.now) glob.now)) }
 {
-    match first_by_glob(&glob.value, met, firsts) {
+    match first_by_glob(&glob.value, matched, firsts) {
         Some(first) => hits.push(hit_by(EntryKind::BypassGlob, glob.span, first)?),
         None => Ok(()),
     }
@@ -213,15 +216,15 @@ fn add_glob_hit(
 fn add_glob_hits(
     alloc: Global,
     globs: &[GlobPattern],
-    met: &[Met<'_>],
+    matched: &[FileMatch<'_>],
     hits: &mut List<Hit>,
 ) -> Result<(), NoMemory>
     ensures { OnOk result (hits.new
-        ≡ hits.old ++ flat_map (λ w. if_hit (glob_hit_in (map met_view met.now) w)) (map words_of globs.now)) }
+        ≡ hits.old ++ flat_map (λ w. if_hit (glob_hit_in (map matched_view matched.now) w)) (map words_of globs.now)) }
 {
-    let firsts = firsts_by_glob(alloc, met)?;
+    let firsts = firsts_by_glob(alloc, matched)?;
     for pattern in globs {
-        add_glob_hit(words_of(pattern), met, &firsts, hits)?;
+        add_glob_hit(words_of(pattern), matched, &firsts, hits)?;
     }
     Ok(())
 }
@@ -234,34 +237,35 @@ fn add_hits_of<'a>(
     bypass: &'a ValidBypass,
     hits: &mut List<Hit>,
 ) -> Result<(), NoMemory>
-    requires { AreUsers (looking_of ctx.now) users.now }
-    ensures { OnOk result (hits.new ≡ hits.old ++ bypass_hits_of (looking_of ctx.now) (bypass_view bypass.now)) }
+    requires { AreUsers (scanning_of ctx.now) users.now }
+    ensures { OnOk result (hits.new ≡ hits.old ++ bypass_hits_of (scanning_of ctx.now) (bypass_view bypass.now)) }
 {
     add_bypass_hit(ctx, users, bypass, hits)?;
-    let met = met_of_users(alloc, ctx, users, bypass)?;
-    add_path_hits(alloc, bypass.allow.as_slice(), met.as_slice(), hits)?;
-    add_glob_hits(alloc, globs_of(bypass), met.as_slice(), hits)
+    let matched = matched_of_users(alloc, ctx, users, bypass)?;
+    add_path_hits(alloc, bypass.allow.as_slice(), matched.as_slice(), hits)?;
+    add_glob_hits(alloc, globs_of(bypass), matched.as_slice(), hits)
 }
 
-/// The hits of the bypasses that crates use, and of the paths and globs by which files pass, in the order of the
-/// policy. Each has the first crate, or the first file of the first such crate, as its witness.
+/// The hits of the bypasses that crates use, and of the paths and globs by which files pass, in the
+/// order of the policy. The witness of each is the first crate, or the first file of the first such
+/// crate.
 pub fn bypass_hits(alloc: Global, ctx: &BuildCtx<'_>) -> Result<List<Hit>, NoMemory>
-    ensures { IfOk result (λ hits. hits ≡ bypass_hits (looking_of ctx.now)) }
+    ensures { IfOk result (λ hits. hits ≡ bypass_hits (scanning_of ctx.now)) }
 {
     let unseen = unseen_package(alloc);
     hits_of_all(alloc, ctx, &unseen)
 }
 
-/// The same; `unseen` is what was seen of a package of which there is nothing.
+/// The hits of all bypasses; `unseen` is the package of a crate that was not scanned.
 fn hits_of_all<'a>(
     alloc: Global,
     ctx: &'a BuildCtx<'a>,
     unseen: &'a Package,
 ) -> Result<List<Hit>, NoMemory>
     requires { unseen.now ≡ unseen_package }
-    ensures { IfOk result (λ hits. hits ≡ bypass_hits (looking_of ctx.now)) }
+    ensures { IfOk result (λ hits. hits ≡ bypass_hits (scanning_of ctx.now)) }
 {
-    let all = look_at_each(alloc, ctx, unseen)?;
+    let all = scan_each(alloc, ctx, unseen)?;
     let users = users_of(alloc, ctx, all.as_slice())?;
     hits_by(alloc, ctx, &users)
 }
@@ -272,8 +276,8 @@ fn hits_by<'a>(
     ctx: &'a BuildCtx<'a>,
     users: &Users<'_, 'a>,
 ) -> Result<List<Hit>, NoMemory>
-    requires { AreUsers (looking_of ctx.now) users.now }
-    ensures { IfOk result (λ hits. hits ≡ bypass_hits (looking_of ctx.now)) }
+    requires { AreUsers (scanning_of ctx.now) users.now }
+    ensures { IfOk result (λ hits. hits ≡ bypass_hits (scanning_of ctx.now)) }
 {
     let entries = ctx.config.bypass.as_slice();
     let mut hits = List::new(alloc);

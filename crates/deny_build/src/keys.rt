@@ -1,33 +1,13 @@
-//! Keys of builds.
+//! The keys of the build check that show a path.
 ghost use Rattle.std.specs.Prelude.{◌≡◌, IfOk};
-ghost use Rattle.deny_codes.specs.Packages.{path_key};
-ghost use Rattle.deny_model.specs.Keys.{crate_key, unused_key};
+ghost use Rattle.deny_spec_report.specs.Packages.{path_key};
 
 use deny_base::{Code, DiagnosticCode, Key, Section, Span};
-use deny_lists::{List, NoMemory, Text};
+use deny_base_lists::{List, NoMemory, Text};
 use std::alloc::Global;
 
-/// The range of a key that is about no entry.
-pub const NO_SPAN: Span = Span { start: 0, end: 0 };
-
-/// The key of a crate and an entry.
-#[tactic(auto, unfolding(deny_model::specs::Keys::key_of))]
-pub fn crate_key(alloc: Global, code: Code, place: u32, entry: Span) -> Key
-    ensures { result ≡ crate_key code place entry }
-{
-    Key {
-        section: Section::Crates,
-        place,
-        code: DiagnosticCode::Bans(code),
-        entry,
-        text: Text::new(alloc),
-        other: 0,
-        places: List::new(alloc),
-    }
-}
-
-/// The key of a crate and an entry that shows a path.
-#[tactic(auto, unfolding(deny_model::specs::Keys::key_of, deny_codes::specs::Packages::path_key))]
+/// The key of a crate, the span of an entry, and a path as it is shown.
+#[tactic(auto, unfolding(deny_spec::specs::Keys::key_of, deny_spec_report::specs::Packages::path_key))]
 pub fn path_key(
     alloc: Global,
     code: Code,
@@ -46,20 +26,4 @@ pub fn path_key(
         other: 0,
         places: List::new(alloc),
     })
-}
-
-/// The key of an entry that comes to nothing.
-#[tactic(auto, unfolding(deny_model::specs::Keys::key_of))]
-pub fn unused_key(alloc: Global, code: Code, entry: Span) -> Key
-    ensures { result ≡ unused_key code entry }
-{
-    Key {
-        section: Section::Unused,
-        place: 0,
-        code: DiagnosticCode::Bans(code),
-        entry,
-        text: Text::new(alloc),
-        other: 0,
-        places: List::new(alloc),
-    }
 }

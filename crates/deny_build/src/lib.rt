@@ -1,5 +1,6 @@
-//! What stands of build scripts and of the files of packages, by what was seen of them: the keys of all of it, and the
-//! hits of the entries that let some pass.
+//! The rules on build scripts and on the files of packages, by what was seen of packages: the keys
+//! that hold, and the hits of the entries that let something pass. The checks of one file, and which
+//! crates lead to one that executes at build time, are handed on from the crates below.
 #![tactic(auto)]
 
 mod build_keys;
@@ -10,14 +11,19 @@ mod files;
 mod glob_texts;
 mod hits;
 mod keys;
-mod looked;
-mod looking;
-mod met;
+mod matched;
+mod scanned_krate;
+mod scanning;
 mod script_keys;
 mod unmatched;
 mod users;
 
 pub use build_keys::add_build_keys;
 pub use ctx::BuildCtx;
+pub use deny_build_file::{
+    CheckEnd, ExecutableKind, NativeKind, check_is_executable, checksum_file, home_path,
+    validate_checksum,
+};
+pub use deny_krates_reach::build_reach;
 pub use deprecated::add_deprecated_keys;
 pub use hits::bypass_hits;

@@ -1,19 +1,19 @@
-//! What stands of build scripts.
+//! The keys of build scripts.
 ghost use Rattle.std.specs.Prelude.{◌≡◌, ◌++◌, ◌∷◌, [], IfOk, OnOk, map};
-ghost use Rattle.deny_build_cfg.specs.BuildingView.{checksum_view};
-ghost use Rattle.deny_codes.specs.BuildScripts.{required_enabled, used};
-ghost use Rattle.deny_codes.specs.Packages.{denied_script_keys, features_enabled_keys, path_key};
-ghost use Rattle.deny_codes.specs.Packages.{right_script_keys, script_keys, script_shown, sum_keys};
-ghost use Rattle.deny_model.specs.Keys.{crate_key};
-ghost use Rattle.deny_build.specs.private.Looked.{krate_of, looking_at};
+ghost use Rattle.deny_cfg_build.specs.BuildingView.{checksum_view};
+ghost use Rattle.deny_spec_report.specs.BuildScripts.{required_enabled, used};
+ghost use Rattle.deny_spec_report.specs.Packages.{denied_script_keys, features_enabled_keys, path_key};
+ghost use Rattle.deny_spec_report.specs.Packages.{right_script_keys, script_keys, script_shown, sum_keys};
+ghost use Rattle.deny_spec.specs.Keys.{crate_key};
+ghost use Rattle.deny_build.specs.private.ScannedKrates.{krate_of, scanning_at};
 
-use crate::keys::{NO_SPAN, crate_key, path_key};
-use crate::looked::Looked;
+use crate::keys::path_key;
+use crate::scanned_krate::ScannedKrate;
 use deny_base::{Code, Key, Spanned};
-use deny_build_model::Package;
-use deny_bypasses::{has_required_enabled, is_script_right, required_unknown, wanted_sum};
-use deny_lists::{List, NoMemory, Text};
-use deny_tables::bans::cfg::Checksum;
+use deny_base_lists::{List, NoMemory, Text};
+use deny_build_bypass::{has_required_enabled, is_script_right, required_unknown, wanted_sum};
+use deny_cfg_tables::bans::cfg::Checksum;
+use deny_spec::{Package, crate_key, no_span};
 use std::alloc::Global;
 
 fn script_shown(alloc: Global, contents: &Package) -> Result<Text, NoMemory>
@@ -25,27 +25,27 @@ fn script_shown(alloc: Global, contents: &Package) -> Result<Text, NoMemory>
     }
 }
 
-/// Adds the keys of some words of an entry that speaks of a crate.
-fn add_words(
+/// Adds a key for each of these required features, by its span.
+fn add_feature_keys(
     alloc: Global,
     code: Code,
     place: u32,
-    words: &[&Spanned<Text>],
+    features: &[&Spanned<Text>],
     keys: &mut List<Key>,
 ) -> Result<(), NoMemory>
-    ensures { OnOk result (keys.new ≡ keys.old ++ map (λ w. crate_key code place w.now.span) words.now) }
+    ensures { OnOk result (keys.new ≡ keys.old ++ map (λ w. crate_key code place w.now.span) features.now) }
 {
-    for word in words {
-        keys.push(crate_key(alloc, code, place, word.span))?;
+    for feature in features {
+        keys.push(crate_key(alloc, code, place, feature.span))?;
     }
     Ok(())
 }
 
-/// Adds the key that shows a build script of which a checksum is wanted.
+/// Adds the key that shows a build script with an expected checksum.
 fn add_shown_key(
     alloc: Global,
     code: Code,
-    at: &Looked<'_>,
+    at: &ScannedKrate<'_>,
     sum: &Spanned<Checksum>,
     keys: &mut List<Key>,
 ) -> Result<(), NoMemory>
@@ -56,19 +56,19 @@ fn add_shown_key(
     keys.push(path_key(alloc, code, at.place, sum.span, &shown)?)
 }
 
-/// Adds the keys of a build script that has the checksum which it is to have.
+/// Adds the keys of a build script that has its expected checksum.
 fn add_right_keys(
     alloc: Global,
-    at: &Looked<'_>,
+    at: &ScannedKrate<'_>,
     sum: &Spanned<Checksum>,
     keys: &mut List<Key>,
 ) -> Result<(), NoMemory>
     ensures { OnOk result (keys.new
-        ≡ keys.old ++ right_script_keys (looking_at at.now) (krate_of at.now) sum.now.span) }
+        ≡ keys.old ++ right_script_keys (scanning_at at.now) (krate_of at.now) sum.now.span) }
 {
     add_shown_key(alloc, Code::ChecksumMatch, at, sum, keys)?;
     let unknown = required_unknown(alloc, at.ctx.config, at.krate)?;
-    add_words(
+    add_feature_keys(
         alloc,
         Code::UnknownFeature,
         at.place,
@@ -78,10 +78,14 @@ fn add_right_keys(
 }
 
 /// Adds the key of the features that a bypass requires, where one of them is enabled.
-fn add_enabled_key(alloc: Global, at: &Looked<'_>, keys: &mut List<Key>) -> Result<(), NoMemory>
+fn add_enabled_key(
+    alloc: Global,
+    at: &ScannedKrate<'_>,
+    keys: &mut List<Key>,
+) -> Result<(), NoMemory>
     ensures { OnOk result (keys.new ≡ keys.old ++ features_enabled_keys at.now.place
-        (used (looking_at at.now).building (krate_of at.now))
-        (required_enabled (looking_at at.now).building (krate_of at.now))) }
+        (used (scanning_at at.now).building (krate_of at.now))
+        (required_enabled (scanning_at at.now).building (krate_of at.now))) }
 {
     let Some(bypass) = at.bypass else {
         return Ok(());
@@ -89,20 +93,20 @@ fn add_enabled_key(alloc: Global, at: &Looked<'_>, keys: &mut List<Key>) -> Resu
     if !has_required_enabled(at.ctx.config, at.ctx.krates, at.krate) {
         return Ok(());
     }
-    let range = bypass.spec.name.span;
-    keys.push(crate_key(alloc, Code::FeaturesEnabled, at.place, range))
+    let span = bypass.spec.name.span;
+    keys.push(crate_key(alloc, Code::FeaturesEnabled, at.place, span))
 }
 
-/// Adds the keys of a build script of which a checksum is wanted.
-#[tactic(auto, unfolding(deny_codes::specs::Packages::sum_keys))]
+/// Adds the keys of a build script with an expected checksum.
+#[tactic(auto, unfolding(deny_spec_report::specs::Packages::sum_keys))]
 fn add_sum_keys(
     alloc: Global,
-    at: &Looked<'_>,
+    at: &ScannedKrate<'_>,
     sum: &Spanned<Checksum>,
     keys: &mut List<Key>,
 ) -> Result<(), NoMemory>
     ensures { OnOk result (keys.new
-        ≡ keys.old ++ sum_keys (looking_at at.now) (krate_of at.now) (checksum_view sum.now)) }
+        ≡ keys.old ++ sum_keys (scanning_at at.now) (krate_of at.now) (checksum_view sum.now)) }
 {
     if !is_script_right(at.ctx.config, at.krate, at.contents) {
         return add_shown_key(alloc, Code::ChecksumMismatch, at, sum, keys);
@@ -111,10 +115,14 @@ fn add_sum_keys(
     add_enabled_key(alloc, at, keys)
 }
 
-/// Adds the keys of what the checksum of a crate's build script says.
-#[tactic(auto, unfolding(deny_codes::specs::Packages::script_keys))]
-pub fn add_script_keys(alloc: Global, at: &Looked<'_>, keys: &mut List<Key>) -> Result<(), NoMemory>
-    ensures { OnOk result (keys.new ≡ keys.old ++ script_keys (looking_at at.now) (krate_of at.now)) }
+/// Adds the keys of the checksum of a crate's build script.
+#[tactic(auto, unfolding(deny_spec_report::specs::Packages::script_keys))]
+pub fn add_script_keys(
+    alloc: Global,
+    at: &ScannedKrate<'_>,
+    keys: &mut List<Key>,
+) -> Result<(), NoMemory>
+    ensures { OnOk result (keys.new ≡ keys.old ++ script_keys (scanning_at at.now) (krate_of at.now)) }
 {
     if !at.checked {
         return Ok(());
@@ -126,16 +134,16 @@ pub fn add_script_keys(alloc: Global, at: &Looked<'_>, keys: &mut List<Key>) -> 
 }
 
 /// Adds the key of a build script that a crate may not have.
-#[tactic(auto, unfolding(deny_codes::specs::Packages::denied_script_keys))]
+#[tactic(auto, unfolding(deny_spec_report::specs::Packages::denied_script_keys))]
 pub fn add_denied_script_keys(
     alloc: Global,
-    at: &Looked<'_>,
+    at: &ScannedKrate<'_>,
     keys: &mut List<Key>,
 ) -> Result<(), NoMemory>
-    ensures { OnOk result (keys.new ≡ keys.old ++ denied_script_keys (looking_at at.now) (krate_of at.now)) }
+    ensures { OnOk result (keys.new ≡ keys.old ++ denied_script_keys (scanning_at at.now) (krate_of at.now)) }
 {
     if !at.denied {
         return Ok(());
     }
-    keys.push(crate_key(alloc, Code::BuildScriptNotAllowed, at.place, NO_SPAN))
+    keys.push(crate_key(alloc, Code::BuildScriptNotAllowed, at.place, no_span()))
 }

@@ -1,8 +1,8 @@
 use crate::case_error::CaseError;
+use crate::result::result_line;
 use crate::text::{number_member, string_member, text_bytes};
-use crate::told::told;
+use deny_base_disk::{MemoryDisk, MemoryOut};
 use deny_cli::status_of_run;
-use deny_outside::{MemoryDisk, MemoryOut};
 use serde_json::{Map, Value};
 use std::alloc::Global;
 
@@ -11,7 +11,7 @@ const PIECE: usize = 0x1_0000;
 
 const ROOM: usize = 0x10_0000;
 
-/// Runs the case of a line, and tells what came of it as a line of JSON.
+/// Runs the case of a line, and gives its result as a line of JSON.
 pub(crate) fn run_line(alloc: Global, line: &str) -> Result<String, CaseError> {
     match Value::from_str(alloc, line) {
         Ok(case) => run(alloc, &case),
@@ -19,39 +19,39 @@ pub(crate) fn run_line(alloc: Global, line: &str) -> Result<String, CaseError> {
     }
 }
 
-/// Runs a case: its words, and the world that they find.
+/// Runs a case: its arguments on its disk.
 fn run(alloc: Global, case: &Value) -> Result<String, CaseError> {
     let Some(name) = string_member(case, "name") else {
         return Err(CaseError::Member("name"));
     };
-    let words = strings(alloc, case.get("words"))?;
-    run_words(alloc, case, name, words.as_slice())
+    let arguments = strings(alloc, case.get("words"))?;
+    run_arguments(alloc, case, name, arguments.as_slice())
 }
 
-fn run_words(
+fn run_arguments(
     alloc: Global,
     case: &Value,
     name: &str,
-    words: &[String],
+    arguments: &[String],
 ) -> Result<String, CaseError> {
     let mut disk = disk(alloc, case)?;
-    run_on_disk(alloc, case, name, words, &mut disk)
+    run_on_disk(alloc, case, name, arguments, &mut disk)
 }
 
 fn run_on_disk(
     alloc: Global,
     case: &Value,
     name: &str,
-    words: &[String],
+    arguments: &[String],
     disk: &mut MemoryDisk,
 ) -> Result<String, CaseError> {
     let mut out = MemoryOut::new(alloc, number(case, "room", ROOM))?;
     let mut err = MemoryOut::new(alloc, number(case, "err_room", ROOM))?;
-    let status = status_of_run(alloc, words, disk, &mut out, &mut err);
-    told(alloc, name, &out, &err, status)
+    let status = status_of_run(alloc, arguments, disk, &mut out, &mut err);
+    result_line(alloc, name, &out, &err, status)
 }
 
-/// A number of the case, or what stands for it where it is left out.
+/// A number of the case, or its default where it is left out.
 fn number(case: &Value, name: &str, default: usize) -> usize {
     match number_member(case, name) {
         Some(number) => number as usize,

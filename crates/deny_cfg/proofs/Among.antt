@@ -1,13 +1,13 @@
--- Ranges that are among others: they lie where the others do, and have no start more often.
+-- Spans that are among others: they lie where the others lie, and no start occurs more often.
 use Rattle.std.proofs.Common.{◌≡◌, ◌+◌, ◌++◌, ℕ, List, [], ◌∷◌, ap, ◌∙◌, subst, arith}
 use Rattle.std.proofs.lemmas.List.{map-append}
 use Rattle.deny_base.specs.declared.span.Span.{Span}
 use Rattle.deny_toml.proofs.ApartLaws.{times, times-append}
 use Rattle.deny_toml.proofs.ApartParts.{IsPartOf, part_itself, part_of_part}
-use Rattle.deny_cfg.specs.LabelRanges.{joined}
+use Rattle.deny_cfg.specs.LabelSpans.{joined}
 use Rattle.deny_cfg.proofs.LabelLaws.{Lie, lie_append, starts}
 
--- what lies of the one list lies of the other, which has no start more often
+-- spans among others lie in the text where the others do, and have distinct starts where the others have
 pub record Among (xs ys : List Span) : Type 0 where
   pub lie : (text : List ℕ) → Lie text ys → Lie text xs
   pub part : IsPartOf (starts xs) (starts ys)

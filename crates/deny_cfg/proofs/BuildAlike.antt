@@ -1,27 +1,28 @@
--- What is read twice of the table `build`, and of its older key, says the same.
+-- What is read twice from the table `build`, and from its older key, is the same.
 use Rattle.std.proofs.Common.{◌≡◌, ◌∙◌, ℕ, false, List, [], Option, None, Some, refl, sym, ap}
 use Rattle.std.specs.List.{AllZip}
 use Rattle.deny_base.specs.declared.level.LintLevel.TheVariants as level
 use Rattle.deny_base.specs.declared.span.Spanned.{Spanned}
-use Rattle.deny_build_cfg.specs.Build.{build_by, listed, of_scripts, older_key_by}
-use Rattle.deny_entries.proofs.ReadsLaws.{ReadsAlike, ReadsOne, SpecsAlike, alike_list, alike_table, keys_alike, one_as}
-use Rattle.deny_entries.proofs.ReadsLaws.{one_bool, one_optional, one_or, one_spanned, one_text, one_texts, text_alike}
-use Rattle.deny_entries.proofs.ReadsLaws.{one_required}
-use Rattle.deny_entries.proofs.KeyLaws.{says_of}
-use Rattle.deny_entries.specs.Entry.{ReadsEntryKeys}
-use Rattle.deny_entries.specs.PolicyKey.{name_of}
-use Rattle.deny_entries.specs.Spec.{ReadsSpec, ReadsSpecKeys, ReadsSpecValue}
-use Rattle.deny_entries.specs.Table.{ReadsTable, at_key}
-use Rattle.deny_entries.specs.Words.{ReadsAs, ReadsBool, ReadsList, ReadsSpanned, ReadsText, ReadsTexts, level_of}
-use Rattle.deny_entries.specs.declared.package_spec.PackageSpec.{PackageSpec}
-use Rattle.deny_entries.specs.declared.policy_key.PolicyKey.TheVariants as key
-use Rattle.deny_tables.proofs.ConfigLaws.{BothAlike, alike_optional}
-use Rattle.deny_tables.specs.Build.{ReadsBuild, ReadsBypass, ReadsBypassKeys, ReadsBypassPath, ReadsChecksum, keys_in}
-use Rattle.deny_tables.specs.Checksum.{checksum_of}
-use Rattle.deny_tables.specs.Config.{ReadsConfig}
-use Rattle.deny_tables.specs.declared.bans.cfg.build.BuildConfig.{BuildConfig}
-use Rattle.deny_tables.specs.declared.bans.cfg.bypass.Bypass.{Bypass}
-use Rattle.deny_tables.specs.declared.bans.cfg.config.Config.{Config}
+use Rattle.deny_cfg_build.specs.Build.{build_by, listed, of_scripts, older_key_by}
+use Rattle.deny_cfg_entries.proofs.ReadsLaws.{ReadsAlike, ReadsOne, SpecsAlike, alike_list, alike_table, keys_alike}
+use Rattle.deny_cfg_entries.proofs.ReadsLaws.{one_as, one_bool, one_optional, one_or, one_spanned, one_text, one_texts}
+use Rattle.deny_cfg_entries.proofs.ReadsLaws.{text_alike, one_required}
+use Rattle.deny_cfg_entries.proofs.KeyLaws.{says_of}
+use Rattle.deny_cfg_entries.specs.Entry.{ReadsEntryKeys}
+use Rattle.deny_cfg_entries.specs.PolicyKey.{name_of}
+use Rattle.deny_cfg_entries.specs.Spec.{ReadsSpec, ReadsSpecKeys, ReadsSpecValue}
+use Rattle.deny_cfg_entries.specs.Table.{ReadsTable, at_key}
+use Rattle.deny_cfg_entries.specs.Words.{ReadsAs, ReadsBool, ReadsList, ReadsSpanned, ReadsText, ReadsTexts, level_of}
+use Rattle.deny_cfg_entries.specs.declared.package_spec.PackageSpec.{PackageSpec}
+use Rattle.deny_cfg_entries.specs.declared.policy_key.PolicyKey.TheVariants as key
+use Rattle.deny_cfg_tables.proofs.ConfigLaws.{BothAlike, alike_optional}
+use Rattle.deny_cfg_tables.specs.Build.{ReadsBuild, ReadsBypass, ReadsBypassKeys, ReadsBypassPath, ReadsChecksum}
+use Rattle.deny_cfg_tables.specs.Build.{keys_in}
+use Rattle.deny_cfg_tables.specs.Checksum.{checksum_of}
+use Rattle.deny_cfg_tables.specs.Config.{ReadsConfig}
+use Rattle.deny_cfg_tables.specs.declared.bans.cfg.build.BuildConfig.{BuildConfig}
+use Rattle.deny_cfg_tables.specs.declared.bans.cfg.bypass.Bypass.{Bypass}
+use Rattle.deny_cfg_tables.specs.declared.bans.cfg.config.Config.{Config}
 use Rattle.deny_toml.specs.Calls.{text_in}
 use Rattle.deny_toml.specs.value.Value.{Value}
 use Rattle.deny_cfg.proofs.LicensingLaws.{one_list}
@@ -71,7 +72,7 @@ one_bypass entries x y one two =
       allow = paths i;
     }
 
--- two entries are alike where their specs are, and else they say the same
+-- two entries of `bypass` are alike: their specs are, and they give the same beside them
 abbrev pub BypassesAlike : Bypass → Bypass → Type 0
 BypassesAlike a b = SpecsAlike a.spec b.spec × (keys_in a ≡ keys_in b)
 
@@ -176,7 +177,7 @@ pub built_alike : ReadsAlike ReadsBans BuiltAlike
 built_alike None a b one two = built_in_keys [] a b one two
 built_alike (Some v) a b one two = alike_table ReadsConfig BuiltAlike built_in_keys v a b one two
 
--- what holds of both is alike, and so are the older keys that stand for it
+-- the tables that apply are alike, and so are the older keys that stand for them
 of_scripts_alike : (x y : List PackageSpec) → AllZip SpecsAlike x y → BuildsAlike (of_scripts x) (of_scripts y)
 of_scripts_alike x y alike = record {
   scripts = alike;

@@ -1,23 +1,23 @@
--- What is wrong in tables that are alike is the same.
+-- Tables that are alike have the same faults.
 use Rattle.std.proofs.Common.{◌≡◌, ◌++◌, ℕ, List, [], ◌∷◌, Contains, Option, None, Some, inl, inr, ap, subst, sym}
 use Rattle.std.specs.Prelude.{filter_map}
 use Rattle.std.specs.List.{AllZip}
-use Rattle.deny_build_cfg.specs.Build.{listed}
-use Rattle.deny_build_cfg.specs.Wrong.{IsGlobFault, IsGlobFaultOf, IsOfAny, IsWrong, extension_fault, faults_by_text}
-use Rattle.deny_build_cfg.specs.Wrong.{path_fault, path_faults}
-use Rattle.deny_build_cfg.specs.declared.wrong.BuildFault.{BuildFault}
-use Rattle.deny_lists.proofs.Alike.{Same, same_flat_map}
-use Rattle.deny_lists.proofs.Members.{Contains-cases, Contains-first, Contains-rest, no_member}
-use Rattle.deny_lists.specs.Ascending.{Lists}
-use Rattle.deny_tables.proofs.ConfigLaws.{BothAlike, ConfigsAlike}
-use Rattle.deny_tables.specs.declared.bans.cfg.build.BuildConfig.{BuildConfig}
-use Rattle.deny_tables.specs.declared.bans.cfg.config.Config.{Config}
+use Rattle.deny_cfg_build.specs.Build.{listed}
+use Rattle.deny_cfg_build.specs.Wrong.{IsGlobFault, IsGlobFaultOf, IsOfAny, IsWrong, extension_fault, faults_by_text}
+use Rattle.deny_cfg_build.specs.Wrong.{path_fault, path_faults}
+use Rattle.deny_cfg_build.specs.declared.wrong.BuildFault.{BuildFault}
+use Rattle.deny_base_lists.proofs.Alike.{Same, same_flat_map}
+use Rattle.deny_base_lists.proofs.Members.{Contains-cases, Contains-first, Contains-rest, no_member}
+use Rattle.deny_base_lists.specs.Ascending.{Lists}
+use Rattle.deny_cfg_tables.proofs.ConfigLaws.{BothAlike, ConfigsAlike}
+use Rattle.deny_cfg_tables.specs.declared.bans.cfg.build.BuildConfig.{BuildConfig}
+use Rattle.deny_cfg_tables.specs.declared.bans.cfg.config.Config.{Config}
 use Rattle.deny_cfg.proofs.BuildAlike.{BuildsAlike, BuiltAlike, BypassesAlike, listed_alike}
 use Rattle.deny_cfg.proofs.ViewLaws.{same_clashes}
 use Rattle.deny_cfg.specs.Clashes.{IsBuildClash, IsClash, clash_cmp}
 use Rattle.deny_cfg.specs.declared.clash.Clash.{Clash}
 
--- what one of some things has, one that is alike has
+-- a fault of an item is a fault of an item that is alike
 any_alike : {X T : Type 0} (Alike : X → X → Type 0) (Is : X → T → Type 0) (found : T)
     → ((x y : X) → Alike x y → Is x found → Is y found) → (xs ys : List X) → AllZip Alike xs ys
     → IsOfAny Is xs found → IsOfAny Is ys found
@@ -68,7 +68,7 @@ clash_alike source a b alike built found (inl entries) =
 clash_alike source a b alike built found (inr wrong) =
     inr (build_clash_alike source a.build b.build built.build found wrong)
 
--- a list of what clashes in the one lists what clashes in the other
+-- a list of the clashes of one configuration lists those of the other
 pub clashes_alike : (source : List ℕ) (a b : Config) → ConfigsAlike a b → BuiltAlike a b → ConfigsAlike b a
     → BuiltAlike b a → (clashes : List Clash) → Lists clash_cmp (IsClash source a) clashes
     → Lists clash_cmp (IsClash source b) clashes

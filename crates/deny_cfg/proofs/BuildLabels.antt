@@ -1,33 +1,33 @@
--- The ranges of the table `build` lie where it writes its words.
+-- The spans of the table `build` lie at the words that the table writes.
 use Rattle.std.proofs.Common.{ℕ, List, [], ◌∷◌, Option, None, Some, refl}
 use Rattle.std.specs.List.{flat_map}
 use Rattle.deny_base.specs.declared.span.Span.{Span}
 use Rattle.deny_base.specs.declared.span.Spanned.{Spanned}
-use Rattle.deny_entries.proofs.KeyLaws.{says_of}
-use Rattle.deny_entries.specs.Entry.{ReadsEntryKeys}
-use Rattle.deny_entries.specs.PolicyKey.{name_of}
-use Rattle.deny_entries.specs.Table.{Entries, ReadsTable, ReadsThere, at_key}
-use Rattle.deny_entries.specs.Words.{ReadsList, ReadsSpanned, ReadsText, ReadsTexts}
-use Rattle.deny_entries.specs.declared.policy_key.PolicyKey.TheVariants as key
-use Rattle.deny_tables.specs.Apart.{bypass_entry-apart}
-use Rattle.deny_tables.specs.Build.{ReadsBuild, ReadsBypass, ReadsBypassKeys, ReadsBypassPath, ReadsChecksum}
-use Rattle.deny_tables.specs.Build.{bypass_fields, bypass_keys, keys_in}
-use Rattle.deny_tables.specs.Checksum.{checksum_of}
-use Rattle.deny_entries.specs.Depends.{keys-depend}
-use Rattle.deny_tables.specs.declared.bans.cfg.build.BuildConfig.{BuildConfig}
-use Rattle.deny_tables.specs.declared.bans.cfg.bypass.Bypass.{Bypass}
-use Rattle.deny_tables.specs.declared.bans.cfg.bypass.BypassPath.{BypassPath}
-use Rattle.deny_tables.specs.declared.bans.cfg.checksum.Checksum.{Checksum}
+use Rattle.deny_cfg_entries.proofs.KeyLaws.{says_of}
+use Rattle.deny_cfg_entries.specs.Entry.{ReadsEntryKeys}
+use Rattle.deny_cfg_entries.specs.PolicyKey.{name_of}
+use Rattle.deny_cfg_entries.specs.Table.{Entries, ReadsTable, ReadsThere, at_key}
+use Rattle.deny_cfg_entries.specs.Words.{ReadsList, ReadsSpanned, ReadsText, ReadsTexts}
+use Rattle.deny_cfg_entries.specs.declared.policy_key.PolicyKey.TheVariants as key
+use Rattle.deny_cfg_tables.specs.Apart.{bypass_entry-apart}
+use Rattle.deny_cfg_tables.specs.Build.{ReadsBuild, ReadsBypass, ReadsBypassKeys, ReadsBypassPath, ReadsChecksum}
+use Rattle.deny_cfg_tables.specs.Build.{bypass_fields, bypass_keys, keys_in}
+use Rattle.deny_cfg_tables.specs.Checksum.{checksum_of}
+use Rattle.deny_cfg_entries.specs.Depends.{keys-depend}
+use Rattle.deny_cfg_tables.specs.declared.bans.cfg.build.BuildConfig.{BuildConfig}
+use Rattle.deny_cfg_tables.specs.declared.bans.cfg.bypass.Bypass.{Bypass}
+use Rattle.deny_cfg_tables.specs.declared.bans.cfg.bypass.BypassPath.{BypassPath}
+use Rattle.deny_cfg_tables.specs.declared.bans.cfg.checksum.Checksum.{Checksum}
 use Rattle.deny_toml.specs.value.Value.{Value}
 use Rattle.deny_cfg.proofs.LabelLaws.{◌▸◌, Within, WithinKey, WithinKeys, key_at, keys_within, list_within, no_more}
 use Rattle.deny_cfg.proofs.LabelLaws.{optional_within, or_within, table_within}
 use Rattle.deny_cfg.proofs.LabelReads.{entry_keys_within, meaning_within, word_within, words_within}
-use Rattle.deny_cfg.specs.LabelRanges.{joined, of_some, own_range, path_ranges, word_ranges}
-use Rattle.deny_cfg.specs.private.LabelRanges.{written_build_ranges}
-use Rattle.deny_cfg.specs.private.LabelRanges.{written_bypass_ranges}
+use Rattle.deny_cfg.specs.LabelSpans.{joined, of_some, own_span, path_spans, word_spans}
+use Rattle.deny_cfg.specs.private.LabelSpans.{written_build_spans}
+use Rattle.deny_cfg.specs.private.LabelSpans.{written_bypass_spans}
 
 checksum_within : (text : List ℕ) (v : Value) (sum : Spanned Checksum) → ReadsSpanned ReadsChecksum v sum
-    → Within text v (own_range sum)
+    → Within text v (own_span sum)
 checksum_within text v sum reads =
     meaning_within text checksum_of v (record { value = sum.value.0; span = sum.span }) reads
 
@@ -38,28 +38,28 @@ there_within text f Reads each None x reads = absurd reads
 there_within text f Reads each (Some v) x reads = key_at text v (f x) (each v x reads)
 
 path_keys_within : (text : List ℕ) (entries : Entries) (file : BypassPath) → ReadsBypassPath entries file
-    → WithinKeys text entries (path_ranges file)
+    → WithinKeys text entries (path_spans file)
 unfolding name_of
 path_keys_within text entries file reads =
     keys_within text entries (
-    there_within text own_range (ReadsSpanned ReadsText) (word_within text) (at_key key.Path entries) file.path
+    there_within text own_span (ReadsSpanned ReadsText) (word_within text) (at_key key.Path entries) file.path
     (says_of key.Path reads)
-    ▸ optional_within text own_range (ReadsSpanned ReadsChecksum) (checksum_within text)
+    ▸ optional_within text own_span (ReadsSpanned ReadsChecksum) (checksum_within text)
     (at_key key.Checksum entries) file.checksum (says_of key.Checksum reads)
     ▸ no_more) refl
 
 path_within : (text : List ℕ) (v : Value) (file : BypassPath) → ReadsTable ReadsBypassPath v file
-    → Within text v (path_ranges file)
+    → Within text v (path_spans file)
 path_within text v file reads =
-    table_within text (path_ranges file) ReadsBypassPath file
+    table_within text (path_spans file) ReadsBypassPath file
     (λ entries keys. path_keys_within text entries file keys) v reads
 
 abbrev pub besides : Bypass → List Span
 besides bypass = joined (
-    of_some own_range bypass.build_script
-    ∷ word_ranges bypass.required_features
-    ∷ of_some word_ranges bypass.allow_globs
-    ∷ flat_map path_ranges bypass.allow
+    of_some own_span bypass.build_script
+    ∷ word_spans bypass.required_features
+    ∷ of_some word_spans bypass.allow_globs
+    ∷ flat_map path_spans bypass.allow
     ∷ []
     )
 
@@ -68,39 +68,39 @@ besides_within : (text : List ℕ) (bypass : Bypass) (entries : Entries) → Rea
 unfolding name_of
 besides_within text bypass entries reads =
     keys_within text entries (
-    optional_within text own_range (ReadsSpanned ReadsChecksum) (checksum_within text)
+    optional_within text own_span (ReadsSpanned ReadsChecksum) (checksum_within text)
     (at_key key.BuildScript entries) bypass.build_script (says_of key.BuildScript reads)
-    ▸ or_within text word_ranges [] ReadsTexts refl (words_within text) (at_key key.RequiredFeatures entries)
+    ▸ or_within text word_spans [] ReadsTexts refl (words_within text) (at_key key.RequiredFeatures entries)
     bypass.required_features (says_of key.RequiredFeatures reads)
-    ▸ optional_within text word_ranges ReadsTexts (words_within text) (at_key key.AllowGlobs entries)
+    ▸ optional_within text word_spans ReadsTexts (words_within text) (at_key key.AllowGlobs entries)
     bypass.allow_globs (says_of key.AllowGlobs reads)
-    ▸ or_within text (flat_map path_ranges) [] (ReadsList (ReadsTable ReadsBypassPath)) refl
-    (list_within text path_ranges (ReadsTable ReadsBypassPath) (path_within text)) (at_key key.Allow entries)
+    ▸ or_within text (flat_map path_spans) [] (ReadsList (ReadsTable ReadsBypassPath)) refl
+    (list_within text path_spans (ReadsTable ReadsBypassPath) (path_within text)) (at_key key.Allow entries)
     bypass.allow (says_of key.Allow reads)
     ▸ no_more) refl
 
 bypass_within : (text : List ℕ) (v : Value) (bypass : Bypass) → ReadsBypass v bypass
-    → Within text v (written_bypass_ranges bypass)
+    → Within text v (written_bypass_spans bypass)
 bypass_within text v bypass reads =
-    table_within text (written_bypass_ranges bypass)
+    table_within text (written_bypass_spans bypass)
     (λ entries (read : Bypass). ReadsEntryKeys ReadsBypassKeys entries read.spec (keys_in read)) bypass
     (entry_keys_within text bypass_fields bypass_entry-apart ReadsBypassKeys (keys-depend bypass_keys) (besides bypass)
     bypass.spec (keys_in bypass) (besides_within text bypass)) v reads
 
 build_keys_within : (text : List ℕ) (entries : Entries) (build : BuildConfig) → ReadsBuild entries build
-    → WithinKeys text entries (written_build_ranges build)
+    → WithinKeys text entries (written_build_spans build)
 unfolding name_of
 build_keys_within text entries build reads =
     keys_within text entries (
-    optional_within text word_ranges ReadsTexts (words_within text) (at_key key.ScriptExtensions entries)
+    optional_within text word_spans ReadsTexts (words_within text) (at_key key.ScriptExtensions entries)
     build.script_extensions (says_of key.ScriptExtensions reads)
-    ▸ optional_within text (flat_map written_bypass_ranges) (ReadsList ReadsBypass)
-    (list_within text written_bypass_ranges ReadsBypass (bypass_within text)) (at_key key.Bypass entries)
+    ▸ optional_within text (flat_map written_bypass_spans) (ReadsList ReadsBypass)
+    (list_within text written_bypass_spans ReadsBypass (bypass_within text)) (at_key key.Bypass entries)
     build.bypass (says_of key.Bypass reads)
     ▸ no_more) refl
 
 pub build_within : (text : List ℕ) (v : Value) (build : BuildConfig) → ReadsTable ReadsBuild v build
-    → Within text v (written_build_ranges build)
+    → Within text v (written_build_spans build)
 build_within text v build reads =
-    table_within text (written_build_ranges build) ReadsBuild build
+    table_within text (written_build_spans build) ReadsBuild build
     (λ entries keys. build_keys_within text entries build keys) v reads

@@ -3,33 +3,33 @@ use Rattle.std.proofs.Common.{◌≡◌, ◌++◌, ◌∙◌, ℕ, List, [], ◌
 use Rattle.std.specs.Prelude.{option_and_then, option_map}
 use Rattle.std.specs.List.{AllZip}
 use Rattle.deny_base.specs.declared.span.Span.{Span}
-use Rattle.deny_build_cfg.proofs.BuildLaws.{one_patterns}
-use Rattle.deny_build_cfg.proofs.BuiltinLaws.{globs_file_of}
-use Rattle.deny_build_cfg.specs.Build.{IsBuildOf, IsBypassOf, builtin_if, listed, number_of}
-use Rattle.deny_build_cfg.specs.BuildingView.{building_view, bypass_view, globs_file, globs_view, path_view}
-use Rattle.deny_build_cfg.specs.BuildingView.{script_glob_view, words_of}
-use Rattle.deny_build_cfg.specs.BuildingView as view
-use Rattle.deny_build_cfg.specs.Globs.{AreGlobsOf, IsSetOf, OfBoth, extension_text, own_text}
-use Rattle.deny_build_cfg.specs.declared.glob_set.ValidGlobSet.{ValidGlobSet}
-use Rattle.deny_build_cfg.specs.declared.pattern.GlobPattern.TheVariants.{User}
-use Rattle.deny_build_cfg.specs.declared.valid.ValidBuildConfig.{ValidBuildConfig}
-use Rattle.deny_build_cfg.specs.declared.valid.ValidBypass.{ValidBypass}
-use Rattle.deny_entries.proofs.ReadsLaws.{SpecsAlike}
-use Rattle.deny_entries.specs.SpecView.{spec_view}
-use Rattle.deny_entries.specs.declared.package_spec.PackageSpec.{PackageSpec}
-use Rattle.deny_lists.proofs.Alike.{same_map}
-use Rattle.deny_model.specs.Policy.{Words}
-use Rattle.deny_tables.proofs.ConfigLaws.{BothAlike}
-use Rattle.deny_tables.specs.declared.bans.cfg.build.BuildConfig.{BuildConfig}
-use Rattle.deny_tables.specs.declared.bans.cfg.bypass.Bypass.{Bypass}
-use Rattle.deny_tables.specs.declared.bans.cfg.config.Config.{Config}
+use Rattle.deny_cfg_build.proofs.BuildLaws.{one_patterns}
+use Rattle.deny_cfg_build.proofs.BuiltinLaws.{globs_file_of}
+use Rattle.deny_cfg_build.specs.Build.{IsBuildOf, IsBypassOf, builtin_if, listed, number_of}
+use Rattle.deny_cfg_build.specs.BuildingView.{building_view, bypass_view, globs_file, globs_view, path_view}
+use Rattle.deny_cfg_build.specs.BuildingView.{script_glob_view, words_of}
+use Rattle.deny_cfg_build.specs.BuildingView as view
+use Rattle.deny_cfg_build.specs.Globs.{AreGlobsOf, IsSetOf, OfBoth, extension_text, own_text}
+use Rattle.deny_cfg_build.specs.declared.glob_set.ValidGlobSet.{ValidGlobSet}
+use Rattle.deny_cfg_build.specs.declared.pattern.GlobPattern.TheVariants.{User}
+use Rattle.deny_cfg_build.specs.declared.valid.ValidBuildConfig.{ValidBuildConfig}
+use Rattle.deny_cfg_build.specs.declared.valid.ValidBypass.{ValidBypass}
+use Rattle.deny_cfg_entries.proofs.ReadsLaws.{SpecsAlike}
+use Rattle.deny_cfg_entries.specs.SpecView.{spec_view}
+use Rattle.deny_cfg_entries.specs.declared.package_spec.PackageSpec.{PackageSpec}
+use Rattle.deny_base_lists.proofs.Alike.{same_map}
+use Rattle.deny_spec.specs.Policy.{SpannedText}
+use Rattle.deny_cfg_tables.proofs.ConfigLaws.{BothAlike}
+use Rattle.deny_cfg_tables.specs.declared.bans.cfg.build.BuildConfig.{BuildConfig}
+use Rattle.deny_cfg_tables.specs.declared.bans.cfg.bypass.Bypass.{Bypass}
+use Rattle.deny_cfg_tables.specs.declared.bans.cfg.config.Config.{Config}
 use Rattle.deny_cfg.proofs.BuildAlike.{BuildsAlike, BuiltAlike, BypassesAlike, builds_by, listed_alike, older_keys_by}
 use Rattle.deny_cfg.proofs.ViewLaws.{same_option}
 use Rattle.deny_cfg.specs.PolicyView.{building_of, builtin_file_of}
 use Rattle.deny_cfg.specs.Valid.{IsValidOf, build_of, older_key_of}
 use Rattle.deny_cfg.specs.declared.bans.cfg.valid.ValidConfig.{ValidConfig}
 
-same_globs : (o : Option (List Words)) (p q : Option ValidGlobSet)
+same_globs : (o : Option (List SpannedText)) (p q : Option ValidGlobSet)
     → OfBoth (λ globs. IsSetOf own_text (map User globs)) o p → OfBoth (λ globs. IsSetOf own_text (map User globs)) o q
     → globs_view p ≡ globs_view q
 same_globs None None None one two = refl
@@ -151,7 +151,7 @@ module _ (number : ℕ) (older key : Option Span) where
   same_files (Some a) (Some b) (Some v) (Some w) alike one two =
       same_file a b number older key v w alike one two
 
--- of configurations that were found valid
+-- the views of valid configurations
 module _ (a b : Config) (alike : BuiltAlike a b) where
   builds : BothAlike BuildsAlike (build_of a) (build_of b)
   builds = builds_by a.build b.build a.allow_build_scripts b.allow_build_scripts alike.build alike.scripts

@@ -1,4 +1,4 @@
--- What is so of the table `build` of each policy that was read: its globs, their file, and its older key.
+-- The table `build` of each policy that is read from a text: its globs, their file, and its older key.
 use Rattle.std.proofs.Common.{◌≡◌, ◌++◌, ◌+◌, ◌&&◌, ℕ, Bool, true, false, List, [], ◌∷◌, length, map, refl, sym, ap}
 use Rattle.std.proofs.Common.{subst, ◌∙◌, arith}
 use Rattle.std.specs.Prelude.{All, IfSome, Option, None, Some, nat_le, option_and_then}
@@ -8,27 +8,27 @@ use Rattle.std.specs.Option.{option_map_or}
 use Rattle.std.proofs.lemmas.Bool.{and_parts}
 use Rattle.std.proofs.lemmas.List.Elements.{All-from_recursion, recursion_from_All}
 use Rattle.std.proofs.lemmas.Str.{IsCharBoundary-from_ascii}
-use Rattle.deny_lists.proofs.Numbers.{le_from_nat_le}
+use Rattle.deny_base_lists.proofs.Numbers.{le_from_nat_le}
 use Rattle.deny_base.specs.declared.span.Span.{Span}
 use Rattle.deny_base.specs.declared.span.Spanned.{Spanned}
-use Rattle.deny_build_cfg.proofs.BuiltinLaws.{ascii_from_test, globs_file_of, kept_each}
-use Rattle.deny_build_cfg.specs.Build.{IsBuildOf, IsReadBuild, build_by, builtin_if, files_of, listed, number_of}
-use Rattle.deny_build_cfg.specs.Build.{older_key_by}
-use Rattle.deny_build_cfg.specs.BuildingView.{globs_file}
-use Rattle.deny_build_cfg.specs.Builtin.{builtin_file, builtin_texts, builtin_words}
-use Rattle.deny_build_cfg.specs.Globs.{OfBoth}
-use Rattle.deny_build_cfg.specs.declared.pattern.GlobPattern.{GlobPattern}
-use Rattle.deny_build_cfg.specs.declared.pattern.GlobPattern.TheVariants.{Builtin, User}
-use Rattle.deny_build_cfg.specs.declared.valid.ValidBuildConfig.{ValidBuildConfig}
-use Rattle.deny_entries.specs.declared.package_spec.PackageSpec.{PackageSpec}
-use Rattle.deny_model.specs.Policy.{Words}
-use Rattle.deny_tables.specs.declared.bans.cfg.build.BuildConfig.{BuildConfig}
-use Rattle.deny_tables.specs.declared.bans.cfg.config.Config.{Config}
-use Rattle.deny_toml.specs.Ranges.{IsRange}
+use Rattle.deny_cfg_build.proofs.BuiltinLaws.{ascii_from_test, globs_file_of, kept_each}
+use Rattle.deny_cfg_build.specs.Build.{IsBuildOf, IsReadBuild, build_by, builtin_if, files_of, listed, number_of}
+use Rattle.deny_cfg_build.specs.Build.{older_key_by}
+use Rattle.deny_cfg_build.specs.BuildingView.{globs_file}
+use Rattle.deny_cfg_build.specs.Builtin.{builtin_file, builtin_texts, builtin_words}
+use Rattle.deny_cfg_build.specs.Globs.{OfBoth}
+use Rattle.deny_cfg_build.specs.declared.pattern.GlobPattern.{GlobPattern}
+use Rattle.deny_cfg_build.specs.declared.pattern.GlobPattern.TheVariants.{Builtin, User}
+use Rattle.deny_cfg_build.specs.declared.valid.ValidBuildConfig.{ValidBuildConfig}
+use Rattle.deny_cfg_entries.specs.declared.package_spec.PackageSpec.{PackageSpec}
+use Rattle.deny_spec.specs.Policy.{SpannedText}
+use Rattle.deny_cfg_tables.specs.declared.bans.cfg.build.BuildConfig.{BuildConfig}
+use Rattle.deny_cfg_tables.specs.declared.bans.cfg.config.Config.{Config}
+use Rattle.deny_toml.specs.Spans.{IsSpan}
 use Rattle.deny_cfg.proofs.Among.{lie_rest}
 use Rattle.deny_cfg.proofs.LabelLaws.{Lie}
-use Rattle.deny_cfg.specs.LabelRanges.{older_range, of_some, own_range}
-use Rattle.deny_cfg.specs.private.LabelRanges.{list_ranges, wrapper_list}
+use Rattle.deny_cfg.specs.LabelSpans.{older_span, of_some, own_span}
+use Rattle.deny_cfg.specs.private.LabelSpans.{list_spans, wrapper_list}
 use Rattle.deny_cfg.specs.PolicyText.{IsPolicyOf, globs_files}
 use Rattle.deny_cfg.specs.PolicyView.{AreGlobsRead, builtin_file_of}
 use Rattle.deny_cfg.specs.Valid.{IsValidOf, build_of, files_asked, older_key_of}
@@ -92,39 +92,39 @@ pub globs_read : (text : List ℕ) (file : ℕ) (policy : Policy) → IsPolicyOf
 globs_read text file policy is =
     read_of (file + 1) (older_key_of is.config) (build_of is.config) policy.bans.build is.valid.build
 
--- those that are built in stand in their file
+-- the built-in globs are in their file
 abbrev pub IsLocated : GlobPattern → Type 0
-IsLocated (Builtin glob) = IsRange builtin_file.source glob.0.span
+IsLocated (Builtin glob) = IsSpan builtin_file.source glob.0.span
 IsLocated (User word) = Unit {0}
 
 abbrev lies_within : Span → Bool
-lies_within range = nat_le range.start range.end && nat_le range.end (length builtin_file.source)
+lies_within span = nat_le span.start span.end && nat_le span.end (length builtin_file.source)
 
 source_ascii : list_all is_ascii builtin_file.source ≡ true
 unfolding builtin_file
 source_ascii = refl
 
-range_by : (range : Span) → lies_within range ≡ true → IsRange builtin_file.source range
-range_by range e =
-    let parts = and_parts (nat_le range.start range.end) (nat_le range.end (length builtin_file.source)) e in
-    let ordered = le_from_nat_le range.start range.end parts.0 in
-    let within = le_from_nat_le range.end (length builtin_file.source) parts.1 in
+span_by : (span : Span) → lies_within span ≡ true → IsSpan builtin_file.source span
+span_by span e =
+    let parts = and_parts (nat_le span.start span.end) (nat_le span.end (length builtin_file.source)) e in
+    let ordered = le_from_nat_le span.start span.end parts.0 in
+    let within = le_from_nat_le span.end (length builtin_file.source) parts.1 in
     let ascii = ascii_from_test builtin_file.source source_ascii in
     record {
       ordered = ordered;
       within = within;
-      starts = IsCharBoundary-from_ascii builtin_file.source range.start ascii (omega (arith, ordered, within));
-      ends = IsCharBoundary-from_ascii builtin_file.source range.end ascii within;
+      starts = IsCharBoundary-from_ascii builtin_file.source span.start ascii (omega (arith, ordered, within));
+      ends = IsCharBoundary-from_ascii builtin_file.source span.end ascii within;
     }
 
-words_located : (file : ℕ) (words : List Words) → list_all (λ w. lies_within w.span) words ≡ true
-    → AllByRecursion IsLocated (map (λ (w : Words). Builtin (w, file)) words)
+words_located : (file : ℕ) (words : List SpannedText) → list_all (λ w. lies_within w.span) words ≡ true
+    → AllByRecursion IsLocated (map (λ (w : SpannedText). Builtin (w, file)) words)
 words_located file [] e = tt
 words_located file (w ∷ ws) e =
-    let parts = and_parts (lies_within w.span) (list_all (λ (v : Words). lies_within v.span) ws) e in
-    (range_by w.span parts.0, words_located file ws parts.1)
+    let parts = and_parts (lies_within w.span) (list_all (λ (v : SpannedText). lies_within v.span) ws) e in
+    (span_by w.span parts.0, words_located file ws parts.1)
 
-all_within : list_all (λ (w : Words). lies_within w.span) builtin_words ≡ true
+all_within : list_all (λ (w : SpannedText). lies_within w.span) builtin_words ≡ true
 unfolding builtin_file builtin_words builtin_texts
 all_within = refl
 
@@ -132,7 +132,8 @@ builtin_located : (file : Option ℕ) → AllByRecursion IsLocated (builtin_if f
 builtin_located None = tt
 builtin_located (Some file) = words_located file builtin_words all_within
 
-wanted_located : (words : List Words) (file : Option ℕ) → AllByRecursion IsLocated (map User words ++ builtin_if file)
+wanted_located : (words : List SpannedText) (file : Option ℕ)
+    → AllByRecursion IsLocated (map User words ++ builtin_if file)
 wanted_located [] file = builtin_located file
 wanted_located (w ∷ ws) file = (tt, wanted_located ws file)
 
@@ -147,24 +148,24 @@ patterns_located valid read =
 older_lies : (text : List ℕ) (number : ℕ) (build : Option BuildConfig)
     (scripts : Option (Spanned (List PackageSpec))) (valid : Option ValidBuildConfig)
     → OfBoth (λ b. IsBuildOf b number (older_key_by build scripts)) (build_by build scripts) valid
-    → Lie text (of_some own_range scripts)
-    → Lie text (of_some (λ b. of_some (λ range. range ∷ []) b.older_key) valid)
+    → Lie text (of_some own_span scripts)
+    → Lie text (of_some (λ b. of_some (λ span. span ∷ []) b.older_key) valid)
 older_lies text number None None None is lie = tt
 older_lies text number None None (Some valid) is lie = absurd is
 older_lies text number None (Some scripts) None is lie = absurd is
 older_lies text number None (Some scripts) (Some valid) is lie =
-    subst (λ o. Lie text (of_some (λ range. range ∷ []) o)) (sym is.older_key) lie
+    subst (λ o. Lie text (of_some (λ span. span ∷ []) o)) (sym is.older_key) lie
 older_lies text number (Some build) scripts None is lie = absurd is
 older_lies text number (Some build) scripts (Some valid) is lie =
-    subst (λ o. Lie text (of_some (λ range. range ∷ []) o)) (sym is.older_key) tt
+    subst (λ o. Lie text (of_some (λ span. span ∷ []) o)) (sym is.older_key) tt
 
 pub older_key_lies : (text : List ℕ) (config : Config) (file number : ℕ) (valid : ValidConfig)
-    → IsValidOf config file number valid → All (IsRange text) (list_ranges config)
-    → All (IsRange text) (older_range valid)
-unfolding list_ranges
+    → IsValidOf config file number valid → All (IsSpan text) (list_spans config)
+    → All (IsSpan text) (older_span valid)
+unfolding list_spans
 older_key_lies text config file number valid is lists =
     let wrappers = flat_map wrapper_list config.deny in
-    All-from_recursion (IsRange text) (older_range valid)
+    All-from_recursion (IsSpan text) (older_span valid)
     (older_lies text number config.build config.allow_build_scripts valid.build is.build
-    (lie_rest text wrappers (of_some own_range config.allow_build_scripts)
-    (recursion_from_All (IsRange text) (wrappers ++ of_some own_range config.allow_build_scripts) lists)))
+    (lie_rest text wrappers (of_some own_span config.allow_build_scripts)
+    (recursion_from_All (IsSpan text) (wrappers ++ of_some own_span config.allow_build_scripts) lists)))

@@ -1,4 +1,4 @@
--- Only equal clashes tie; and how clashes are gathered.
+-- Only equal clashes tie; and how clashes are collected.
 use Rattle.std.proofs.Common.{◌≡◌, ◌<◌, ◌≤◌, ◌+◌, ◌++◌, ℕ, Bool, true, false, List, [], ◌∷◌, Option, Some, None, drop}
 use Rattle.std.proofs.Common.{length, map, slice_index_or, add-one, append_assoc, append-nil, inl, inr, refl, sym}
 use Rattle.std.proofs.Common.{subst, ap, ◌∙◌}
@@ -9,15 +9,15 @@ use Rattle.std.proofs.Math.Seq.{drop-cons}
 use Rattle.std.specs.Ordering.{bool_cmp, nat_cmp}
 use Rattle.std.specs.FinMap.{IsAntisymmetric, nat_cmp-IsAntisymmetric}
 use Rattle.deny_base.proofs.KeyEqual.{span_cmp-exact}
-use Rattle.deny_lists.proofs.Orders.{then_first, then_second}
+use Rattle.deny_base_lists.proofs.Orders.{then_first, then_second}
 use Rattle.deny_base.specs.KeyOrder.{span_cmp}
 use Rattle.deny_base.specs.declared.span.Span.{Span}
-use Rattle.deny_build_cfg.specs.Wrong.{IsWrong}
-use Rattle.deny_build_cfg.specs.declared.wrong.BuildFault.{BuildFault}
-use Rattle.deny_lists.proofs.Adding.{adds_list, adds_same}
-use Rattle.deny_lists.proofs.Members.{Contains-from_map, contains_map, no_member}
-use Rattle.deny_lists.specs.Ascending.{Adds}
-use Rattle.deny_tables.specs.declared.bans.cfg.build.BuildConfig.{BuildConfig}
+use Rattle.deny_cfg_build.specs.Wrong.{IsWrong}
+use Rattle.deny_cfg_build.specs.declared.wrong.BuildFault.{BuildFault}
+use Rattle.deny_base_lists.proofs.Adding.{adds_list, adds_same}
+use Rattle.deny_base_lists.proofs.Members.{Contains-from_map, contains_map, no_member}
+use Rattle.deny_base_lists.specs.Ascending.{Adds}
+use Rattle.deny_cfg_tables.specs.declared.bans.cfg.build.BuildConfig.{BuildConfig}
 use Rattle.deny_cfg.specs.Clashes.{IsBuildClash, IsWrongIn, build_clash, clash_cmp, kind_cmp, kind_number}
 use Rattle.deny_cfg.specs.declared.clash.Clash.{Clash}
 use Rattle.deny_cfg.specs.declared.clash.ClashKind.{ClashKind}
@@ -86,7 +86,7 @@ put_one : {A : Type 0} (done : List A) (o : Option A) (rest : List A)
 put_one done None rest = ap (λ xs. xs ++ rest) (append-nil done)
 put_one done (Some x) rest = append_assoc done (x ∷ []) rest
 
--- what one more element gives was put behind what the others gave
+-- what one more item gives is put behind what the others give
 pub gathers_next : {X Y : Type 0} (f : X → Option Y) (xs : List X) (i : ℕ) (x : X) (done new all : List Y)
     (o : Option Y) → i < length xs → x ≡ slice_index_or xs i x
     → done ++ filter_map f (drop i xs) ≡ all → o ≡ f x → new ≡ done ++ cons_option o []
@@ -103,7 +103,7 @@ pub gathers_all : {X Y : Type 0} (f : X → Option Y) (xs : List X) (i : ℕ) (d
 gathers_all f xs i done all past is =
     sym (append-nil done) ∙ (ap (λ ys. done ++ filter_map f ys) (sym (drop_of_length-le xs past)) ∙ is)
 
--- filtered, mapped, and what is given
+-- filtering, then mapping, then taking what is given
 
 pub given_where : {X Y Z : Type 0} (f : Y → Option Z) (h : X → Y) (p : X → Bool) (xs : List X)
     → filter_map f (map h (filter p xs)) ≡ filter_map (λ x. cond (p x) (f (h x)) None) xs
@@ -116,7 +116,7 @@ given_where f h p (x ∷ xs) = by_test (p x) (given_where f h p xs)
     by_test true e = ap (cons_option (f (h x))) e
     by_test false e = e
 
--- what is wrong in a table was put behind the others
+-- the faults of a table are put behind the other clashes
 pub adds_wrong : (source : List ℕ) (written : Option BuildConfig) (build : BuildConfig) (faults given : List BuildFault)
     (old new : List Clash) → written ≡ Some build → Adds (IsWrong source build) [] faults → given ≡ faults
     → new ≡ old ++ map build_clash given → Adds (IsBuildClash source written) old new

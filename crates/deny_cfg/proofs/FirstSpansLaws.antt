@@ -1,6 +1,6 @@
--- Of equal wordings the first is found.
-use Rattle.deny_lists.proofs.Orders.{option_text_cmp-exact, text_cmp-exact, then_first, then_second, is_eq-then}
-use Rattle.deny_lists.proofs.Orders.{is_eq-reverse}
+-- The span that is found for a wording is that of the first equal wording.
+use Rattle.deny_base_lists.proofs.Orders.{option_text_cmp-exact, text_cmp-exact, then_first, then_second, is_eq-then}
+use Rattle.deny_base_lists.proofs.Orders.{is_eq-reverse}
 use Rattle.std.proofs.Common.{◌≡◌, ◌<◌, ◌+◌, ◌&&◌, length, take, ℕ, List, [], ◌∷◌, Bool, true, false, Option, Some}
 use Rattle.std.proofs.Common.{None, map, refl, sym, ap, ◌∙◌}
 use Rattle.std.specs.Prelude.{cond, find, is_some, option_map, slice_index_or}
@@ -13,23 +13,22 @@ use Rattle.std.specs.Ordering.{is_eq, nat_cmp}
 use Rattle.std.specs.declared.cmp.Ordering.{Ordering}
 use Rattle.std.specs.declared.cmp.Ordering.TheVariants.{Less, Equal, Greater}
 use Rattle.deny_base.specs.declared.span.Span.{Span}
-use Rattle.deny_model.specs.Policy.{Words}
-use Rattle.deny_model.specs.Text.{same_text}
+use Rattle.deny_spec.specs.Policy.{SpannedText}
+use Rattle.deny_spec.specs.Text.{same_text}
 use Rattle.deny_cfg.specs.Clashes.{clash_with, feature_at, feature_clash, specs_of, two_spans}
-use Rattle.deny_lists.specs.First.{FindsFirst, GainsEntry}
-use Rattle.deny_lists.proofs.FirstLemmas.{finds_more}
-use Rattle.deny_lists.proofs.Indices.{map-take_next}
+use Rattle.deny_base_lists.specs.First.{FindsFirst, GainsEntry}
+use Rattle.deny_base_lists.proofs.FirstLemmas.{finds_more}
+use Rattle.deny_base_lists.proofs.Indices.{map-take_next}
 use Rattle.deny_cfg.specs.private.FirstSpans.{entry_span, first_span, plain_wording, same_wording, spec_wording}
 use Rattle.deny_cfg.specs.private.FirstSpans.{word_span}
 use Rattle.deny_cfg.specs.private.FirstSpans.{wording_cmp}
-use Rattle.deny_entries.specs.SpecView.{same_spec}
-use Rattle.deny_tables.specs.declared.bans.cfg.features.CrateFeatures.{CrateFeatures}
+use Rattle.deny_cfg_entries.specs.SpecView.{same_spec}
+use Rattle.deny_cfg_tables.specs.declared.bans.cfg.features.CrateFeatures.{CrateFeatures}
 use Rattle.deny_cfg.specs.declared.clash.ClashKind.{ClashKind}
 use Rattle.deny_cfg.specs.declared.first_spans.FirstSpans.{FirstSpans}
 use Rattle.deny_cfg.specs.declared.first_spans.Wording.{Wording}
-use Rattle.deny_entries.specs.declared.package_spec.PackageSpec.{PackageSpec}
-use Rattle.deny_entries.specs.declared.reason.Reason.{Reason}
-use Rattle.deny_entries.specs.declared.spec_or_extended.PackageSpecOrExtended.{PackageSpecOrExtended}
+use Rattle.deny_cfg_entries.specs.declared.package_spec.PackageSpec.{PackageSpec}
+use Rattle.deny_cfg_entries.specs.declared.spec_or_extended.PackageSpecOrExtended.{PackageSpecOrExtended}
 
 wording_from : List ℕ → Option (List ℕ) → Wording
 wording_from name requirement = record { name = name; requirement = requirement }
@@ -50,7 +49,7 @@ wording_cmp-total =
     then_total (on_total (λ (w : Wording). w.name) nat_list_cmp_total)
     (on_total (λ (w : Wording). w.requirement) (options_total nat_list_cmp_total))
 
--- wordings are the same exactly where they tie
+-- wordings are equal exactly where they tie
 option_ties : (x y : Option (List ℕ)) → option_eq same_text x y ≡ is_eq (option_cmp (slice_cmp nat_cmp) x y)
 option_ties None None = refl
 option_ties None (Some y) = refl
@@ -88,7 +87,7 @@ none_there : (o : Option Span) → is_some o ≡ false → o ≡ None
 none_there None e = refl
 none_there (Some x) e = cc e
 
--- what was not there comes behind the others, and what was stays
+-- a new wording is added behind the others, and the span of an earlier equal one stays
 pub gains_new : (old new : FirstSpans) (w : Wording) (p : Span) → is_some (first_span old w) ≡ false
     → ((asked : Wording) → first_span new asked ≡ cond (is_eq (wording_cmp w asked)) (Some p) (first_span old asked))
     → GainsEntry same_wording w p (first_span old) (first_span new)
@@ -108,7 +107,7 @@ gains_none old w p there = record {
       (λ e. ap (λ q. is_some (first_span old q)) (wording_same asked w e) ∙ there);
 }
 
--- one more of the things that have these spans
+-- one more of the items that have these spans
 pub finds_next : {A : Type 0} (pair : A → Wording × Span) (xs : List A) (i : ℕ) (x : A) (old new : FirstSpans)
     → i < length xs → x ≡ slice_index_or xs i x
     → FindsFirst same_wording (map pair (take i xs)) (first_span old)
@@ -118,7 +117,7 @@ finds_next pair xs i x old new inside is finds gains =
     rw (map-take_next pair xs i x inside is)
     (finds_more same_wording (map pair (take i xs)) (pair x).0 (pair x).1 (first_span old) (first_span new) finds gains)
 
-spec_found : (s : PackageSpec) (others : List (PackageSpecOrExtended Reason))
+spec_found : {T : Type 0} (s : PackageSpec) (others : List (PackageSpecOrExtended T))
     → lookup (same_wording (spec_wording s)) (map entry_span others)
     ≡ option_map (λ other. other.name.span) (find (same_spec s) (specs_of others))
 spec_found s [] = refl
@@ -137,8 +136,8 @@ map_twice : {A B C : Type 0} (f : A → B) (g : B → C) (o : Option A)
 map_twice f g None = refl
 map_twice f g (Some x) = refl
 
--- so the clash of a spec is with the first equal one
-pub clash_found : (kind : ClashKind) (s : PackageSpec) (others : List (PackageSpecOrExtended Reason))
+-- the clash of a spec is with the first equal one
+pub clash_found : {T : Type 0} (kind : ClashKind) (s : PackageSpec) (others : List (PackageSpecOrExtended T))
     (found : FirstSpans) → FindsFirst same_wording (map entry_span others) (first_span found)
     → option_map (two_spans kind s.name.span) (first_span found (spec_wording s)) ≡ clash_with kind (specs_of others) s
 unfolding clash_with
@@ -150,7 +149,7 @@ and_true : (b : Bool) → b && true ≡ b
 and_true true = refl
 and_true false = refl
 
-word_found : (text : List ℕ) (denied : List Words)
+word_found : (text : List ℕ) (denied : List SpannedText)
     → lookup (same_wording (plain_wording text)) (map word_span denied)
     ≡ option_map (λ word. word.span) (find (λ word. same_text text word.value) denied)
 word_found text [] = refl
@@ -165,7 +164,7 @@ word_found text (x ∷ xs) =
     by_test true e = refl
     by_test false e = e
 
-pub feature_found : (entry : CrateFeatures) (allowed : Words) (found : FirstSpans)
+pub feature_found : (entry : CrateFeatures) (allowed : SpannedText) (found : FirstSpans)
     → FindsFirst same_wording (map word_span entry.deny) (first_span found)
     → option_map (feature_at entry.spec.name.span allowed) (first_span found (plain_wording allowed.value))
     ≡ feature_clash entry allowed

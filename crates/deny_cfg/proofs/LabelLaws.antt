@@ -1,5 +1,5 @@
--- The ranges of what is read from a value lie in the text, and those of words begin where scalars of the value begin,
--- each at another.
+-- The spans of what is read from a value lie in the text, and those of words start where scalars of the value start,
+-- each at another scalar.
 use Rattle.std.proofs.lemmas.Bool.{and_parts, not-true}
 use Rattle.std.proofs.lemmas.Option.{same_Some}
 use Rattle.std.proofs.Common.{◌≡◌, ◌+◌, ◌&&◌, ◌++◌, ℕ, Bool, true, false, cond, not, List, [], ◌∷◌, map, append-nil}
@@ -15,88 +15,88 @@ use Rattle.deny_toml.proofs.ApartParts.{starts_of, starts_of_elements, starts_of
 use Rattle.deny_toml.specs.Apart.{starts_in}
 use Rattle.deny_toml.specs.Calls.{Layer, array_in, array_of, has_name, layer_in, table_in, table_of, value_at, without}
 use Rattle.deny_toml.specs.Deserialize.{ReadsArray, ReadsEach}
-use Rattle.deny_toml.specs.Ranges as ranges
-use Rattle.deny_toml.specs.Ranges.{AllOfContent, AllOfEntries, AllOfValues, IsRange, KeyStands, StandsIn}
-use Rattle.deny_toml.specs.Ranges.{ValueStands}
+use Rattle.deny_toml.specs.Spans as spans
+use Rattle.deny_toml.specs.Spans.{AllOfContent, AllOfEntries, AllOfValues, IsSpan, KeyOccurs, OccursIn}
+use Rattle.deny_toml.specs.Spans.{ValueOccurs}
 use Rattle.deny_toml.specs.Value.{entries_in}
 use Rattle.deny_toml.specs.value.Table.{Table}
 use Rattle.deny_toml.specs.value.Value.{Value}
-use Rattle.deny_cfg.specs.LabelRanges.{joined, of_some}
-use Rattle.deny_entries.specs.Table.{Entries, ReadsIn, ReadsIfThere, ReadsOr, ReadsTable}
-use Rattle.deny_entries.specs.Words.{ReadsList}
+use Rattle.deny_cfg.specs.LabelSpans.{joined, of_some}
+use Rattle.deny_cfg_entries.specs.Table.{Entries, ReadsIn, ReadsIfThere, ReadsOr, ReadsTable}
+use Rattle.deny_cfg_entries.specs.Words.{ReadsList}
 
--- ---- parts of a value that stands in a text
+-- ---- parts of a value in a text
 
 abbrev pub Lie : List ℕ → List Span → Type 0
-Lie text spans = AllByRecursion (IsRange text) spans
+Lie text spans = AllByRecursion (IsSpan text) spans
 
 abbrev pub starts : List Span → List ℕ
 starts spans = map (λ span. span.start) spans
 
-abbrev pub StandsAt : List ℕ → Option Value → Type 0
-StandsAt text None = Unit {0}
-StandsAt text (Some v) = StandsIn text v
+abbrev pub OccursAt : List ℕ → Option Value → Type 0
+OccursAt text None = Unit {0}
+OccursAt text (Some v) = OccursIn text v
 
-abbrev pub EntriesStand : List ℕ → Entries → Type 0
-EntriesStand text entries = AllOfEntries (KeyStands text) (ValueStands text) entries
+abbrev pub EntriesOccur : List ℕ → Entries → Type 0
+EntriesOccur text entries = AllOfEntries (KeyOccurs text) (ValueOccurs text) entries
 
-pub stands_itself : (text : List ℕ) (v : Value) → StandsIn text v → ValueStands text v
-stands_itself text v (ranges.value _ here below) = here
+pub holds_itself : (text : List ℕ) (v : Value) → OccursIn text v → ValueOccurs text v
+holds_itself text v (spans.value _ here below) = here
 
-stands_below : (text : List ℕ) (v : Value) → StandsIn text v
-    → AllOfContent (KeyStands text) (ValueStands text) (layer_in v)
-stands_below text v (ranges.value _ here below) = below
+holds_below : (text : List ℕ) (v : Value) → OccursIn text v
+    → AllOfContent (KeyOccurs text) (ValueOccurs text) (layer_in v)
+holds_below text v (spans.value _ here below) = below
 
 elements_by : (text : List ℕ) (l : Layer) (vs : List Value) → array_of l ≡ Some vs
-    → AllOfContent (KeyStands text) (ValueStands text) l → AllOfValues (KeyStands text) (ValueStands text) vs
-elements_by text l vs is (ranges.scalar_content s) = cc
-elements_by text l vs is (ranges.array_content ws all) =
-    subst (AllOfValues (KeyStands text) (ValueStands text)) (same_Some ws vs is) all
-elements_by text l vs is (ranges.table_content t all) = cc
+    → AllOfContent (KeyOccurs text) (ValueOccurs text) l → AllOfValues (KeyOccurs text) (ValueOccurs text) vs
+elements_by text l vs is (spans.scalar_content s) = cc
+elements_by text l vs is (spans.array_content ws all) =
+    subst (AllOfValues (KeyOccurs text) (ValueOccurs text)) (same_Some ws vs is) all
+elements_by text l vs is (spans.table_content t all) = cc
 
-each_stands : (text : List ℕ) (vs : List Value) → AllOfValues (KeyStands text) (ValueStands text) vs
-    → AllByRecursion (StandsIn text) vs
-each_stands text vs ranges.no_values = tt
-each_stands text vs (ranges.values v more here all) = (here, each_stands text more all)
+each_holds : (text : List ℕ) (vs : List Value) → AllOfValues (KeyOccurs text) (ValueOccurs text) vs
+    → AllByRecursion (OccursIn text) vs
+each_holds text vs spans.no_values = tt
+each_holds text vs (spans.values v more here all) = (here, each_holds text more all)
 
-pub elements_stand : (text : List ℕ) (v : Value) (vs : List Value) → array_in v ≡ Some vs → StandsIn text v
-    → AllByRecursion (StandsIn text) vs
-elements_stand text v vs is stands =
-    each_stands text vs (elements_by text (layer_in v) vs is (stands_below text v stands))
+pub elements_hold : (text : List ℕ) (v : Value) (vs : List Value) → array_in v ≡ Some vs → OccursIn text v
+    → AllByRecursion (OccursIn text) vs
+elements_hold text v vs is holds =
+    each_holds text vs (elements_by text (layer_in v) vs is (holds_below text v holds))
 
 entries_by : (text : List ℕ) (l : Layer) (t : Table) → table_of l ≡ Some t
-    → AllOfContent (KeyStands text) (ValueStands text) l → EntriesStand text (entries_in t)
-entries_by text l t is (ranges.scalar_content s) = cc
-entries_by text l t is (ranges.array_content ws all) = cc
-entries_by text l t is (ranges.table_content u all) =
-    subst (λ w. EntriesStand text (entries_in w)) (same_Some u t is) all
+    → AllOfContent (KeyOccurs text) (ValueOccurs text) l → EntriesOccur text (entries_in t)
+entries_by text l t is (spans.scalar_content s) = cc
+entries_by text l t is (spans.array_content ws all) = cc
+entries_by text l t is (spans.table_content u all) =
+    subst (λ w. EntriesOccur text (entries_in w)) (same_Some u t is) all
 
-pub entries_stand : (text : List ℕ) (v : Value) (t : Table) → table_in v ≡ Some t → StandsIn text v
-    → EntriesStand text (entries_in t)
-entries_stand text v t is stands = entries_by text (layer_in v) t is (stands_below text v stands)
+pub entries_hold : (text : List ℕ) (v : Value) (t : Table) → table_in v ≡ Some t → OccursIn text v
+    → EntriesOccur text (entries_in t)
+entries_hold text v t is holds = entries_by text (layer_in v) t is (holds_below text v holds)
 
-pub at_stands : (text name : List ℕ) (entries : Entries) → EntriesStand text entries
-    → StandsAt text (value_at name entries)
-at_stands text name entries ranges.no_entries = tt
-at_stands text name entries (ranges.entries k v more key here all) =
-    by_test (has_name name (k, v)) (at_stands text name more all)
+pub at_holds : (text name : List ℕ) (entries : Entries) → EntriesOccur text entries
+    → OccursAt text (value_at name entries)
+at_holds text name entries spans.no_entries = tt
+at_holds text name entries (spans.entries k v more key here all) =
+    by_test (has_name name (k, v)) (at_holds text name more all)
   where
-    by_test : (b : Bool) → StandsAt text (value_at name more)
-        → StandsAt text (option_map (λ e. e.1) (cond b (Some (k, v)) (find (has_name name) more)))
+    by_test : (b : Bool) → OccursAt text (value_at name more)
+        → OccursAt text (option_map (λ e. e.1) (cond b (Some (k, v)) (find (has_name name) more)))
     by_test true later = here
     by_test false later = later
 
-pub without_stands : (text name : List ℕ) (entries : Entries) → EntriesStand text entries
-    → EntriesStand text (without name entries)
+without_holds : (text name : List ℕ) (entries : Entries) → EntriesOccur text entries
+    → EntriesOccur text (without name entries)
 unfolding without
-without_stands text name entries ranges.no_entries = ranges.no_entries
-without_stands text name entries (ranges.entries k v more key here all) =
-    by_test (has_name name (k, v)) (without_stands text name more all)
+without_holds text name entries spans.no_entries = spans.no_entries
+without_holds text name entries (spans.entries k v more key here all) =
+    by_test (has_name name (k, v)) (without_holds text name more all)
   where
-    by_test : (b : Bool) → EntriesStand text (without name more)
-        → EntriesStand text (cond b more ((k, v) ∷ without name more))
+    by_test : (b : Bool) → EntriesOccur text (without name more)
+        → EntriesOccur text (cond b more ((k, v) ∷ without name more))
     by_test true later = all
-    by_test false later = ranges.entries k v (without name more) key here later
+    by_test false later = spans.entries k v (without name more) key here later
 
 times_taken : (name : List ℕ) (entries : Entries) (x : ℕ)
     → times x (starts_at entries name) + times x (starts_of_entries (without name entries))
@@ -119,22 +119,22 @@ times_taken name (e ∷ es) x = by_test (has_name name e) (times_taken name es x
               (starts_of_entries (without name es)),
         )
 
--- ---- ranges of what is read
+-- ---- the spans of what is read
 
 pub record Within (text : List ℕ) (v : Value) (spans : List Span) : Type 0 where
-  pub lie : StandsIn text v → Lie text spans
+  pub lie : OccursIn text v → Lie text spans
   pub part : IsPartOf (starts spans) (starts_in v)
 
 pub record WithinKey (text : List ℕ) (o : Option Value) (spans : List Span) : Type 0 where
-  pub lie : StandsAt text o → Lie text spans
+  pub lie : OccursAt text o → Lie text spans
   pub part : IsPartOf (starts spans) (starts_of o)
 
 pub record WithinKeys (text : List ℕ) (entries : Entries) (spans : List Span) : Type 0 where
-  pub lie : EntriesStand text entries → Lie text spans
+  pub lie : EntriesOccur text entries → Lie text spans
   pub part : IsPartOf (starts spans) (starts_of_entries entries)
 
-pub record WithinEach (text : List ℕ) (vs : List Value) (spans : List Span) : Type 0 where
-  pub lie : AllByRecursion (StandsIn text) vs → Lie text spans
+record WithinEach (text : List ℕ) (vs : List Value) (spans : List Span) : Type 0 where
+  pub lie : AllByRecursion (OccursIn text) vs → Lie text spans
   pub part : IsPartOf (starts spans) (flat_map starts_in vs)
 
 pub lie_append : (text : List ℕ) (xs ys : List Span) → Lie text xs → Lie text ys → Lie text (xs ++ ys)
@@ -178,7 +178,7 @@ each_within text f Reads each (v ∷ vs) (x ∷ xs) reads =
     let first = each v x reads.0 in
     let rest = each_within text f Reads each vs xs reads.1 in
     record {
-      lie = λ stand. lie_append text (f x) (flat_map f xs) (first.lie stand.0) (rest.lie stand.1);
+      lie = λ hold. lie_append text (f x) (flat_map f xs) (first.lie hold.0) (rest.lie hold.1);
       part = part_both (f x) (flat_map f xs) (starts_in v) (flat_map starts_in vs) first.part rest.part;
     }
 
@@ -192,7 +192,7 @@ list_within text f Reads each v xs reads = by_array (array_in v) refl reads
     by_array (Some vs) is reads =
         let all = each_within text f Reads each vs xs reads in
         record {
-          lie = λ stands. all.lie (elements_stand text v vs is stands);
+          lie = λ holds. all.lie (elements_hold text v vs is holds);
           part = subst (IsPartOf (starts (flat_map f xs))) (sym (starts_of_elements v vs is)) all.part;
         }
 
@@ -206,7 +206,7 @@ table_within text spans Reads x each v reads = by_table (table_in v) refl reads
     by_table (Some t) is reads =
         let all = each (entries_in t) reads in
         record {
-          lie = λ stands. all.lie (entries_stand text v t is stands);
+          lie = λ holds. all.lie (entries_hold text v t is holds);
           part = subst (IsPartOf (starts spans)) (sym (starts_of_keys v t is)) all.part;
         }
 
@@ -216,8 +216,8 @@ pub put_key : (text name : List ℕ) (entries : Entries) (xs ys : List Span) →
     → WithinKeys text (without name entries) ys → WithinKeys text entries (xs ++ ys)
 put_key text name entries xs ys first rest = record {
   lie =
-      λ stand. lie_append text xs ys (first.lie (at_stands text name entries stand))
-      (rest.lie (without_stands text name entries stand));
+      λ hold. lie_append text xs ys (first.lie (at_holds text name entries hold))
+      (rest.lie (without_holds text name entries hold));
   part = λ x.
       omega (
         arith,
@@ -234,7 +234,7 @@ pub skip_key : (text name : List ℕ) (entries : Entries) (ys : List Span) → W
 skip_key text name entries ys rest = put_key text name entries [] ys (key_none text (value_at name entries)) rest
 
 pub no_keys : (text : List ℕ) (entries : Entries) → WithinKeys text entries []
-no_keys text entries = record { lie = λ stand. tt; part = part_nothing (starts_of_entries entries) }
+no_keys text entries = record { lie = λ hold. tt; part = part_nothing (starts_of_entries entries) }
 
 pub one_key : (text name : List ℕ) (entries : Entries) (xs : List Span) → WithinKey text (value_at name entries) xs
     → WithinKeys text entries xs
@@ -242,10 +242,10 @@ one_key text name entries xs within =
     subst (WithinKeys text entries) (append-nil xs)
     (put_key text name entries xs [] within (no_keys text (without name entries)))
 
-pub no_entries_stand : (text : List ℕ) → EntriesStand text []
-no_entries_stand text = ranges.no_entries
+pub no_entries_hold : (text : List ℕ) → EntriesOccur text []
+no_entries_hold text = spans.no_entries
 
--- what is read of each of these keys, in order, lies within what the table holds at it
+-- what is read from these keys, in order, has its spans within the values of the table at them
 pub data EachKey (text : List ℕ) (entries : Entries) : List (List ℕ) → List (List Span) → Type 0 where
   no_more : EachKey text entries [] []
   ◌▸◌ : {n : List ℕ} {ns : List (List ℕ)} {xs : List Span} {xss : List (List Span)}
@@ -253,10 +253,10 @@ pub data EachKey (text : List ℕ) (entries : Entries) : List (List ℕ) → Lis
 
 infixr 4 ◌▸◌
 keys_lie : (text : List ℕ) (entries : Entries) {ns : List (List ℕ)} {xss : List (List Span)}
-    → EachKey text entries ns xss → EntriesStand text entries → Lie text (joined xss)
-keys_lie text entries no_more stand = tt
-keys_lie text entries (◌▸◌ {n = n} {xs = xs} {xss = xss} first more) stand =
-    lie_append text xs (joined xss) (first.lie (at_stands text n entries stand)) (keys_lie text entries more stand)
+    → EachKey text entries ns xss → EntriesOccur text entries → Lie text (joined xss)
+keys_lie text entries no_more hold = tt
+keys_lie text entries (◌▸◌ {n = n} {xs = xs} {xss = xss} first more) hold =
+    lie_append text xs (joined xss) (first.lie (at_holds text n entries hold)) (keys_lie text entries more hold)
 
 keys_part : (text : List ℕ) (entries : Entries) {ns : List (List ℕ)} {xss : List (List Span)}
     → EachKey text entries ns xss → IsPartOf (starts (joined xss)) (flat_map (starts_at entries) ns)

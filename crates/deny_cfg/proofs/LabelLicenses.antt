@@ -1,4 +1,4 @@
--- The ranges of licences and of exceptions lie in the text, and no two of them begin at one offset.
+-- The spans of licences and of exceptions lie in the text, and no two of them start at the same offset.
 use Rattle.std.proofs.Common.{ℕ, List, [], Option, refl}
 use Rattle.std.specs.List.{flat_map}
 use Rattle.deny_base.specs.declared.span.Spanned.{Spanned}
@@ -6,22 +6,22 @@ use Rattle.deny_spdx.specs.Meaning.{requirement_in}
 use Rattle.deny_spdx.specs.declared.requirement.Requirement.{Requirement}
 use Rattle.deny_toml.specs.Apart.{AreApart}
 use Rattle.deny_toml.specs.Calls.{below_name}
-use Rattle.deny_toml.specs.Ranges.{StandsIn}
+use Rattle.deny_toml.specs.Spans.{OccursIn}
 use Rattle.deny_toml.specs.value.Value.{Value}
-use Rattle.deny_entries.specs.Depends.{keys-depend}
-use Rattle.deny_entries.specs.Entry.{ReadsEntryKeys}
-use Rattle.deny_entries.specs.Licence.{ReadsLicences}
-use Rattle.deny_entries.specs.PolicyKey.{name_of}
-use Rattle.deny_entries.specs.Table.{Entries, ReadsTable, at_key}
-use Rattle.deny_entries.specs.Words.{ReadsAs, ReadsList, ReadsSpanned}
-use Rattle.deny_entries.specs.declared.policy_key.PolicyKey.TheVariants as key
-use Rattle.deny_entries.proofs.KeyLaws.{says_of}
-use Rattle.deny_tables.specs.Apart.{exception_entry-apart}
-use Rattle.deny_tables.specs.Licenses.{ReadsException, ReadsExceptionKeys, ReadsLicenses, exception_fields}
-use Rattle.deny_tables.specs.Licenses.{exception_keys}
-use Rattle.deny_tables.specs.declared.licenses.config.Config.{Config}
-use Rattle.deny_tables.specs.declared.licenses.exception.Exception.{Exception}
-use Rattle.deny_cfg.specs.LabelRanges.{AreLabels, exception_range, licence_labels, licence_ranges, own_range}
+use Rattle.deny_cfg_entries.specs.Depends.{keys-depend}
+use Rattle.deny_cfg_entries.specs.Entry.{ReadsEntryKeys}
+use Rattle.deny_cfg_entries.specs.Licence.{ReadsLicences}
+use Rattle.deny_cfg_entries.specs.PolicyKey.{name_of}
+use Rattle.deny_cfg_entries.specs.Table.{Entries, ReadsTable, at_key}
+use Rattle.deny_cfg_entries.specs.Words.{ReadsAs, ReadsList, ReadsSpanned}
+use Rattle.deny_cfg_entries.specs.declared.policy_key.PolicyKey.TheVariants as key
+use Rattle.deny_cfg_entries.proofs.KeyLaws.{says_of}
+use Rattle.deny_cfg_tables.specs.Apart.{exception_entry-apart}
+use Rattle.deny_cfg_tables.specs.Licenses.{ReadsException, ReadsExceptionKeys, ReadsLicenses, exception_fields}
+use Rattle.deny_cfg_tables.specs.Licenses.{exception_keys}
+use Rattle.deny_cfg_tables.specs.declared.licenses.config.Config.{Config}
+use Rattle.deny_cfg_tables.specs.declared.licenses.exception.Exception.{Exception}
+use Rattle.deny_cfg.specs.LabelSpans.{AreLabels, exception_span, licence_labels, licence_spans, own_span}
 use Rattle.deny_cfg.specs.PolicyText.{ReadsLicensing, licenses_name}
 use Rattle.deny_cfg.proofs.LabelConfig.{key_are_labels}
 use Rattle.deny_cfg.proofs.LabelLaws.{◌▸◌, Within, WithinKey, WithinKeys, keys_within, list_within, no_keys, no_more}
@@ -29,14 +29,14 @@ use Rattle.deny_cfg.proofs.LabelLaws.{optional_within, or_within, table_within}
 use Rattle.deny_cfg.proofs.LabelReads.{entry_keys_within, meaning_within}
 
 licences_within : (text : List ℕ) (v : Value) (licences : List (Spanned Requirement)) → ReadsLicences v licences
-    → Within text v (flat_map own_range licences)
+    → Within text v (flat_map own_span licences)
 licences_within text v licences reads =
-    list_within text own_range (ReadsSpanned (ReadsAs requirement_in)) (meaning_within text requirement_in) v licences
+    list_within text own_span (ReadsSpanned (ReadsAs requirement_in)) (meaning_within text requirement_in) v licences
     reads
 
-exception_within : (text : List ℕ) (v : Value) (e : Exception) → ReadsException v e → Within text v (exception_range e)
+exception_within : (text : List ℕ) (v : Value) (e : Exception) → ReadsException v e → Within text v (exception_span e)
 exception_within text v e reads =
-    table_within text (exception_range e)
+    table_within text (exception_span e)
     (λ entries (read : Exception). ReadsEntryKeys ReadsExceptionKeys entries read.spec (record { allow = read.allow }))
     e
     (entry_keys_within text exception_fields exception_entry-apart ReadsExceptionKeys (keys-depend exception_keys) []
@@ -47,24 +47,24 @@ licenses_within : (text : List ℕ) (entries : Entries) (config : Config) → Re
 unfolding name_of licence_labels
 licenses_within text entries config reads =
     keys_within text entries (
-    or_within text (flat_map own_range) [] ReadsLicences refl (licences_within text) (at_key key.Allow entries)
+    or_within text (flat_map own_span) [] ReadsLicences refl (licences_within text) (at_key key.Allow entries)
     config.allow (says_of key.Allow reads)
-    ▸ or_within text (flat_map exception_range) [] (ReadsList ReadsException) refl
-    (list_within text exception_range ReadsException (exception_within text)) (at_key key.Exceptions entries)
+    ▸ or_within text (flat_map exception_span) [] (ReadsList ReadsException) refl
+    (list_within text exception_span ReadsException (exception_within text)) (at_key key.Exceptions entries)
     config.exceptions (says_of key.Exceptions reads)
     ▸ no_more) refl
 
--- what is read of the table `licenses`, within the root
+-- what is read from the table `licenses`, within the root
 licensing_within : (text : List ℕ) (o : Option Value) (licensing : Option Config) → ReadsLicensing o licensing
-    → WithinKey text o (licence_ranges licensing)
+    → WithinKey text o (licence_spans licensing)
 licensing_within text o licensing reads =
     optional_within text licence_labels (ReadsTable ReadsLicenses)
     (λ v config. table_within text (licence_labels config) ReadsLicenses config
     (λ entries. licenses_within text entries config) v) o licensing reads
 
-pub licensing_are_labels : (text : List ℕ) (tree : Value) (licensing : Option Config) → StandsIn text tree
+pub licensing_are_labels : (text : List ℕ) (tree : Value) (licensing : Option Config) → OccursIn text tree
     → AreApart tree → ReadsLicensing (below_name licenses_name tree) licensing
-    → AreLabels text (licence_ranges licensing)
-licensing_are_labels text tree licensing stands apart reads =
-    key_are_labels text licenses_name tree (licence_ranges licensing) stands apart
+    → AreLabels text (licence_spans licensing)
+licensing_are_labels text tree licensing holds apart reads =
+    key_are_labels text licenses_name tree (licence_spans licensing) holds apart
     (licensing_within text (below_name licenses_name tree) licensing reads)

@@ -3,10 +3,10 @@ pub mod BuildAlike
 pub mod BuildAmong
 pub mod BuildClashes
 pub mod BuildLabels
-pub mod BuildTold
+pub mod BuildReported
 pub mod BuildView
 pub mod BuiltLaws
-pub mod ToldLaws
+pub mod ReportedLaws
 pub mod LawfulLaws
 pub mod LabelValid
 pub mod LabelConfig

@@ -1,23 +1,23 @@
--- What a tree says of licences is one in all that the rules see.
+-- What is read twice from a tree about licences is the same in all that the rules see.
 use Rattle.std.proofs.Common.{◌≡◌, false, [], Option, None, Some, sym, ap, ◌∙◌}
 use Rattle.std.specs.List.{each_same}
 use Rattle.deny_base.specs.declared.level.LintLevel.TheVariants as level
 use Rattle.deny_spdx.specs.Meaning.{requirement_in}
 use Rattle.deny_toml.specs.value.Value.{Value}
-use Rattle.deny_lists.proofs.Alike.{same_map}
-use Rattle.deny_entries.specs.Entry.{ReadsEntryKeys}
-use Rattle.deny_entries.specs.Licence.{ReadsLicences}
-use Rattle.deny_entries.specs.PolicyKey.{name_of}
-use Rattle.deny_entries.specs.Table.{Entries, ReadsTable, at_key}
-use Rattle.deny_entries.specs.Words.{ReadsAs, ReadsBool, ReadsList, ReadsSpanned, ReadsText, level_of}
-use Rattle.deny_entries.specs.declared.policy_key.PolicyKey.TheVariants as key
-use Rattle.deny_entries.proofs.ReadsLaws.{ReadsAlike, ReadsOne, SpecsAlike, alike_list, alike_list_or, alike_table}
-use Rattle.deny_entries.proofs.ReadsLaws.{keys_alike, one_as, one_bool, one_or, one_spanned, one_text, one_required}
-use Rattle.deny_entries.proofs.KeyLaws.{says_of}
-use Rattle.deny_tables.specs.Licenses.{ReadsException, ReadsExceptionKeys, ReadsLicenses, ReadsPrivate, none_private}
-use Rattle.deny_tables.specs.Licenses.{private_in}
-use Rattle.deny_tables.specs.declared.licenses.config.Config.{Config}
-use Rattle.deny_tables.specs.declared.licenses.exception.Exception.{Exception}
+use Rattle.deny_base_lists.proofs.Alike.{same_map}
+use Rattle.deny_cfg_entries.specs.Entry.{ReadsEntryKeys}
+use Rattle.deny_cfg_entries.specs.Licence.{ReadsLicences}
+use Rattle.deny_cfg_entries.specs.PolicyKey.{name_of}
+use Rattle.deny_cfg_entries.specs.Table.{Entries, ReadsTable, at_key}
+use Rattle.deny_cfg_entries.specs.Words.{ReadsAs, ReadsBool, ReadsList, ReadsSpanned, ReadsText, level_of}
+use Rattle.deny_cfg_entries.specs.declared.policy_key.PolicyKey.TheVariants as key
+use Rattle.deny_cfg_entries.proofs.ReadsLaws.{ReadsAlike, ReadsOne, SpecsAlike, alike_list, alike_list_or, alike_table}
+use Rattle.deny_cfg_entries.proofs.ReadsLaws.{keys_alike, one_as, one_bool, one_or, one_spanned, one_text, one_required}
+use Rattle.deny_cfg_entries.proofs.KeyLaws.{says_of}
+use Rattle.deny_cfg_tables.specs.Licenses.{ReadsException, ReadsExceptionKeys, ReadsLicenses, ReadsPrivate}
+use Rattle.deny_cfg_tables.specs.Licenses.{none_private, private_in}
+use Rattle.deny_cfg_tables.specs.declared.licenses.config.Config.{Config}
+use Rattle.deny_cfg_tables.specs.declared.licenses.exception.Exception.{Exception}
 use Rattle.deny_cfg.specs.LicensingView.{exception_view, licensing_of, licensing_view}
 use Rattle.deny_cfg.specs.PolicyText.{ReadsLicensing}
 
@@ -29,7 +29,7 @@ one_licences : ReadsOne ReadsLicences
 one_licences =
     one_list (ReadsSpanned (ReadsAs requirement_in)) (one_spanned (ReadsAs requirement_in) (one_as requirement_in))
 
--- two exceptions are alike where their specs are, and they list the same
+-- two exceptions are alike: their specs are, and they list the same licences
 abbrev ExceptionsAlike : Exception → Exception → Type 0
 ExceptionsAlike a b = SpecsAlike a.spec b.spec × (a.allow ≡ b.allow)
 

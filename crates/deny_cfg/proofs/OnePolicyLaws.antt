@@ -1,53 +1,52 @@
--- What a text says as a policy is one, and so is why it says none.
+-- What a text writes as a policy is unique, and so is the reason why it is no policy.
 use Rattle.std.proofs.Common.{◌≡◌, ◌⊎◌, ◌+◌, inl, inr, ℕ, List, [], ◌∷◌, map, refl, sym, ap, subst, ◌∙◌}
 use Rattle.std.specs.Prelude.{Option, None, Some}
 use Rattle.std.specs.Cmp.{IsTotalOrder, bool_cmp_total, nat_cmp_total, on_total, then_total}
-use Rattle.deny_lists.specs.Ascending.{Lists}
+use Rattle.deny_base_lists.specs.Ascending.{Lists}
 use Rattle.deny_base.specs.declared.finding.Diagnostic.{Diagnostic}
 use Rattle.deny_base.specs.declared.span.Span.{Span}
-use Rattle.deny_lists.proofs.Members.{Contains-first}
-use Rattle.deny_lists.proofs.Sorted.{one_list}
+use Rattle.deny_base_lists.proofs.Members.{Contains-first}
+use Rattle.deny_base_lists.proofs.Sorted.{one_list}
 use Rattle.deny_base.proofs.KeyEqual.{span_cmp-total}
 use Rattle.deny_toml.specs.Calls.{below_name}
 use Rattle.deny_toml.specs.Clash.{clash}
 use Rattle.deny_toml.specs.Faults.{fault_at}
 use Rattle.deny_toml.specs.Parser.{IsDocumentOf, IsFaultOf, IsTreeOf}
-use Rattle.deny_toml.specs.Tree.{tree}
-use Rattle.deny_toml.specs.declared.error.ConfigFault.{ConfigFault}
-use Rattle.deny_toml.specs.declared.error.FaultKind.TheVariants.{Grammar}
+use Rattle.deny_toml.specs.error.ConfigFault.{ConfigFault}
+use Rattle.deny_toml.specs.error.FaultKind.TheVariants.{Grammar}
 use Rattle.deny_toml.specs.declared.error.TomlKind.{TomlKind}
 use Rattle.deny_toml.specs.declared.error.TomlKind.TheVariants as toml
-use Rattle.deny_toml.specs.Expression.{Expression}
+use Rattle.deny_toml.specs.TomlExpression.{TomlExpression}
 use Rattle.deny_toml.specs.value.Value.{Value}
 use Rattle.deny_toml.proofs.ParserLaws.{one_tree}
-use Rattle.deny_cfg.specs.Clashes.{clash_cmp, clash_told, kind_number}
+use Rattle.deny_cfg.specs.Clashes.{clash_cmp, clash_diag, kind_number}
 use Rattle.deny_cfg.specs.Deprecated.{warnings_by}
 use Rattle.deny_cfg.specs.LicensingView.{licensing_of}
-use Rattle.deny_cfg.specs.PolicyText.{AreFaults, IsPolicyOf, ListsFaults, ReadsBans, ReadsLicensing, Says, TellsClashes}
-use Rattle.deny_cfg.specs.PolicyText.{bans_name, faults_of_tree, kind_of, licenses_name}
+use Rattle.deny_cfg.specs.PolicyText.{AreFaults, IsPolicyOf, ListsFaults, ReadsBans, ReadsLicensing, Says}
+use Rattle.deny_cfg.specs.PolicyText.{ReportsClashes, bans_name, faults_of_tree, kind_of, licenses_name}
 use Rattle.deny_cfg.specs.PolicyView.{building_of, builtin_file_of, policy_view}
-use Rattle.deny_tables.specs.declared.bans.cfg.config.Config.{Config}
-use Rattle.deny_tables.specs.declared.licenses.config.Config as licenses
+use Rattle.deny_cfg_tables.specs.declared.bans.cfg.config.Config.{Config}
+use Rattle.deny_cfg_tables.specs.declared.licenses.config.Config as licenses
 use Rattle.deny_cfg.specs.declared.clash.Clash.{Clash}
 use Rattle.deny_cfg.specs.declared.policy.Policy.{Policy}
-use Rattle.deny_entries.proofs.ReadsLaws.{ReadsAlike, alike_table}
-use Rattle.deny_tables.proofs.ConfigLaws.{ConfigsAlike, configs_alike}
-use Rattle.deny_tables.specs.Config.{ReadsConfig}
+use Rattle.deny_cfg_entries.proofs.ReadsLaws.{ReadsAlike, alike_table}
+use Rattle.deny_cfg_tables.proofs.ConfigLaws.{ConfigsAlike, configs_alike}
+use Rattle.deny_cfg_tables.specs.Config.{ReadsConfig}
 use Rattle.deny_cfg.proofs.BuildAlike.{BuiltAlike, built_alike}
 use Rattle.deny_cfg.proofs.BuildClashes.{clash_alike, clashes_alike}
 use Rattle.deny_cfg.proofs.BuildView.{same_building, same_builtin_file, same_older_key}
 use Rattle.deny_cfg.proofs.LicensingLaws.{licensing_alike}
 use Rattle.deny_cfg.proofs.ViewLaws.{same_view}
 
--- what a text writes is one, and so is its tree
-one_document : (text : List ℕ) (es fs : List Expression) → IsDocumentOf text es → IsDocumentOf text fs → es ≡ fs
+-- a text has at most one tree
+one_document : (text : List ℕ) (es fs : List TomlExpression) → IsDocumentOf text es → IsDocumentOf text fs → es ≡ fs
 one_document text es fs one two = two.only es one.written
 
 bans_alike : ReadsAlike ReadsBans ConfigsAlike
 bans_alike None a b one two = configs_alike [] a b one two
 bans_alike (Some v) a b one two = alike_table ReadsConfig ConfigsAlike configs_alike v a b one two
 
--- what two texts say is read from one tree
+-- what is read twice from one text is read from one tree
 module _ (text : List ℕ) (a b : Config) (l m : Option licenses.Config) (one : Says text a l) (two : Says text b m) where
   bans_of_one : ReadsBans (below_name bans_name one.tree) b
   bans_of_one =
@@ -59,10 +58,10 @@ module _ (text : List ℕ) (a b : Config) (l m : Option licenses.Config) (one : 
       subst (λ v. ReadsLicensing (below_name licenses_name v) m)
       (one_tree text two.tree one.tree two.is_tree one.is_tree) two.reads_licenses
 
-  pub says_alike : ConfigsAlike a b
+  says_alike : ConfigsAlike a b
   says_alike = bans_alike (below_name bans_name one.tree) a b one.reads bans_of_one
 
-  pub says_built : BuiltAlike a b
+  says_built : BuiltAlike a b
   says_built = built_alike (below_name bans_name one.tree) a b one.reads bans_of_one
 
   same_licensing : licensing_of l ≡ licensing_of m
@@ -99,7 +98,7 @@ IsGrammarFault faults = (span : Span) × (faults ≡ fault_at Grammar [] span �
 abbrev pub AreOne : List ConfigFault → List ConfigFault → Type 0
 AreOne xs ys = (xs ≡ ys) ⊎ (IsGrammarFault xs × IsGrammarFault ys)
 
--- a text that has a tree is in the grammar, and nothing in it clashes
+-- a text that has a tree is in the grammar, and no keys of it clash
 no_toml_fault : (text : List ℕ) (of : TomlKind) (span : Span) (v : Value) → IsFaultOf text of span → IsTreeOf text v → ⊥
 no_toml_fault text toml.Grammar span v outside is_tree = outside is_tree.0 is_tree.1.written
 no_toml_fault text toml.Clash span v clashes is_tree =
@@ -120,15 +119,15 @@ one_toml_fault text toml.Clash toml.Clash span other one two =
 
 one_faults : (text : List ℕ) (xs ys : List ConfigFault) → AreFaults text xs → AreFaults text ys → AreOne xs ys
 one_faults text xs ys (AreFaults.not_utf8 other) (AreFaults.not_utf8 too) = inl refl
-one_faults text xs ys (AreFaults.not_utf8 other) (AreFaults.no_toml of span utf8 fault range) = absurd (other utf8)
+one_faults text xs ys (AreFaults.not_utf8 other) (AreFaults.no_toml of span utf8 fault within) = absurd (other utf8)
 one_faults text xs ys (AreFaults.not_utf8 other) (AreFaults.of_tree v utf8 is_tree) = absurd (other utf8)
-one_faults text xs ys (AreFaults.no_toml of span utf8 fault range) (AreFaults.not_utf8 other) = absurd (other utf8)
-one_faults text xs ys (AreFaults.no_toml of span utf8 fault range) (AreFaults.no_toml too other also found within) =
+one_faults text xs ys (AreFaults.no_toml of span utf8 fault within) (AreFaults.not_utf8 other) = absurd (other utf8)
+one_faults text xs ys (AreFaults.no_toml of span utf8 fault within) (AreFaults.no_toml too other also found inside) =
     one_toml_fault text of too span other fault found
-one_faults text xs ys (AreFaults.no_toml of span utf8 fault range) (AreFaults.of_tree v also is_tree) =
+one_faults text xs ys (AreFaults.no_toml of span utf8 fault within) (AreFaults.of_tree v also is_tree) =
     absurd (no_toml_fault text of span v fault is_tree)
 one_faults text xs ys (AreFaults.of_tree v utf8 is_tree) (AreFaults.not_utf8 other) = absurd (other utf8)
-one_faults text xs ys (AreFaults.of_tree v utf8 is_tree) (AreFaults.no_toml of span also fault range) =
+one_faults text xs ys (AreFaults.of_tree v utf8 is_tree) (AreFaults.no_toml of span also fault within) =
     absurd (no_toml_fault text of span v fault is_tree)
 one_faults text xs ys (AreFaults.of_tree v utf8 is_tree) (AreFaults.of_tree w also is_too) =
     inl (ap faults_of_tree (one_tree text v w is_tree is_too))
@@ -136,11 +135,11 @@ one_faults text xs ys (AreFaults.of_tree v utf8 is_tree) (AreFaults.of_tree w al
 pub same_faults : (text : List ℕ) (xs ys : List ConfigFault) → ListsFaults text xs → ListsFaults text ys → AreOne xs ys
 same_faults text xs ys one two = one_faults text xs ys one.are two.are
 
--- a text that says something has no fault
+-- a text whose tables can be read has no fault
 no_faults : (text : List ℕ) (config : Config) (licensing : Option licenses.Config) (xs : List ConfigFault)
     → Says text config licensing → AreFaults text xs → xs ≡ []
 no_faults text config licensing xs says (AreFaults.not_utf8 other) = absurd (other says.utf8)
-no_faults text config licensing xs says (AreFaults.no_toml of span utf8 fault range) =
+no_faults text config licensing xs says (AreFaults.no_toml of span utf8 fault within) =
     absurd (no_toml_fault text of span says.tree fault says.is_tree)
 no_faults text config licensing xs says (AreFaults.of_tree v utf8 is_tree) =
     ap faults_of_tree (one_tree text v says.tree is_tree says.is_tree) ∙ says.faultless
@@ -150,7 +149,7 @@ pub says_without_faults : (text : List ℕ) (config : Config) (licensing : Optio
 says_without_faults text config licensing faults says lists =
     lists.some (no_faults text config licensing faults says lists.are)
 
--- what clashes in a text is one, and told one way
+-- the clashes of a text are unique, and so are their diagnostics
 clash_cmp-total : IsTotalOrder clash_cmp
 clash_cmp-total =
     then_total (on_total (λ (c : Clash). c.kind) (on_total kind_number nat_cmp_total))
@@ -160,16 +159,16 @@ clash_cmp-total =
     (then_total (on_total (λ (c : Clash). c.number) nat_cmp_total)
     (on_total (λ (c : Clash). c.ascii) bool_cmp_total)))))
 
-pub same_told : (text : List ℕ) (file : ℕ) (xs ys : List Diagnostic) → TellsClashes text file xs
-    → TellsClashes text file ys → xs ≡ ys
-same_told text file xs ys one two =
+pub same_reported : (text : List ℕ) (file : ℕ) (xs ys : List Diagnostic) → ReportsClashes text file xs
+    → ReportsClashes text file ys → xs ≡ ys
+same_reported text file xs ys one two =
     let alike = says_alike text two.config one.config two.licensing one.licensing two.says one.says in
     let back = says_alike text one.config two.config one.licensing two.licensing one.says two.says in
     let built = says_built text two.config one.config two.licensing one.licensing two.says one.says in
     let too = says_built text one.config two.config one.licensing two.licensing one.says two.says in
     let listed =
     clashes_alike text two.config one.config alike built back too two.are.clashes two.are.listed in
-    one.are.is ∙ ap (map (clash_told file))
+    one.are.is ∙ ap (map (clash_diag file))
     (one_list clash_cmp-total one.are.clashes two.are.clashes one.are.listed listed) ∙ sym two.are.is
 
 none_listed : {P : Clash → Type 0} (clashes : List Clash) → ((found : Clash) → P found → ⊥)
@@ -177,13 +176,13 @@ none_listed : {P : Clash → Type 0} (clashes : List Clash) → ((found : Clash)
 none_listed [] none listed = refl
 none_listed (c ∷ clashes) none listed = absurd (none c (listed.sound c (Contains-first c clashes)))
 
-pub policy_without_clashes : (text : List ℕ) (file number : ℕ) (told : List Diagnostic) (policy : Policy)
-    → TellsClashes text file told → IsPolicyOf text number policy → ⊥
-policy_without_clashes text file number told policy tells is =
-    let alike = says_alike text tells.config is.config tells.licensing policy.licenses tells.says is.says in
-    let built = says_built text tells.config is.config tells.licensing policy.licenses tells.says is.says in
-    tells.some (tells.are.is
-    ∙ ap (map (clash_told file))
-    (none_listed tells.are.clashes
-    (λ found clashes. is.no_clash found (clash_alike text tells.config is.config alike built found clashes))
-    tells.are.listed))
+pub policy_without_clashes : (text : List ℕ) (file number : ℕ) (reported : List Diagnostic) (policy : Policy)
+    → ReportsClashes text file reported → IsPolicyOf text number policy → ⊥
+policy_without_clashes text file number reported policy reports is =
+    let alike = says_alike text reports.config is.config reports.licensing policy.licenses reports.says is.says in
+    let built = says_built text reports.config is.config reports.licensing policy.licenses reports.says is.says in
+    reports.some (reports.are.is
+    ∙ ap (map (clash_diag file))
+    (none_listed reports.are.clashes
+    (λ found clashes. is.no_clash found (clash_alike text reports.config is.config alike built found clashes))
+    reports.are.listed))

@@ -1,6 +1,6 @@
--- What is told of a text that has no policy, and that a text without clashes tells none.
-use Rattle.deny_lists.proofs.Members.{no_member}
-use Rattle.deny_lists.proofs.PrefixLemmas.{gains_whole_of}
+-- The diagnostics of a text that is no policy, and that a text without clashes has none but warnings.
+use Rattle.deny_base_lists.proofs.Members.{no_member}
+use Rattle.deny_base_lists.proofs.PrefixLemmas.{gains_whole_of}
 use Rattle.std.proofs.Common.{◌≡◌, ◌++◌, ◌-◌, ℕ, List, [], ◌∷◌, Contains, append_assoc, length, map, take, Ok, Err, inl}
 use Rattle.std.proofs.Common.{inr, refl, sym, ap, ◌∙◌, subst, arith}
 use Rattle.std.proofs.lemmas.Bool.{cases_lt}
@@ -10,29 +10,28 @@ use Rattle.std.specs.Prelude.{IfErr, IfOk, IsUtf8, OnErr, Result}
 use Rattle.deny_base.specs.declared.files.File.{File}
 use Rattle.deny_base.specs.declared.finding.Diagnostic.{Diagnostic}
 use Rattle.deny_base.specs.declared.span.Span.{Span}
-use Rattle.deny_model.specs.Keys.{no_span}
+use Rattle.deny_spec.specs.Keys.{no_span}
 use Rattle.deny_toml.proofs.FaultLaws.{reports_these, single_ascends}
 use Rattle.deny_toml.specs.Faults.{Reports, fault_at}
 use Rattle.deny_toml.specs.Parser.{IsFaultOf, IsTreeOf}
-use Rattle.deny_toml.specs.Ranges.{IsRange}
-use Rattle.deny_toml.specs.declared.error.ConfigFault.{ConfigFault}
-use Rattle.deny_toml.specs.declared.error.DeserError.TheVariants as deser
-use Rattle.deny_toml.specs.declared.error.FaultKind.TheVariants as kind
+use Rattle.deny_toml.specs.Spans.{IsSpan}
+use Rattle.deny_toml.specs.error.ConfigFault.{ConfigFault}
+use Rattle.deny_toml.specs.error.DeserError.TheVariants as deser
+use Rattle.deny_toml.specs.error.FaultKind.TheVariants as kind
 use Rattle.deny_toml.specs.declared.error.TomlKind.{TomlKind}
 use Rattle.deny_toml.specs.value.Value.{Value}
-use Rattle.deny_cfg.specs.Clashes.{AreClashes, IsClash, clash_cmp, clash_told}
+use Rattle.deny_cfg.specs.Clashes.{AreClashes, IsClash, clash_cmp, clash_diag}
 use Rattle.deny_cfg.specs.PolicyText.{AddsFiles, AreFaults, IsNoPolicy, Keeps, KeepsOnError}
 use Rattle.deny_cfg.specs.private.PolicyText.{AddsOnError, IsConfig}
 use Rattle.deny_cfg.specs.PolicyText.{ListsFaults, faults_of_tree, globs_files, kind_of, policy_file, policy_files}
 use Rattle.deny_cfg.specs.PolicyText.AreFaults.{not_utf8, no_toml, of_tree}
-use Rattle.deny_lists.specs.Ascending.{Lists}
-use Rattle.deny_lists.specs.Prefix.{Gains, GainsPrefix, GainsPrefixOf}
+use Rattle.deny_base_lists.specs.Ascending.{Lists}
+use Rattle.deny_base_lists.specs.Prefix.{Gains, GainsPrefix, GainsPrefixOf}
 use Rattle.deny_cfg.specs.Deprecated.{warnings_of}
-use Rattle.deny_cfg.specs.private.Deprecated.{AreTold}
-use Rattle.deny_tables.specs.declared.bans.cfg.config.Config.{Config}
+use Rattle.deny_cfg.specs.private.Deprecated.{AreReported}
+use Rattle.deny_cfg_tables.specs.declared.bans.cfg.config.Config.{Config}
 use Rattle.deny_cfg.specs.declared.clash.Clash.{Clash}
 use Rattle.deny_cfg.specs.PolicyView.{builtin_file_of}
-use Rattle.deny_cfg.specs.Validating.{source_in}
 use Rattle.deny_cfg.specs.declared.policy.Policy.{Policy}
 use Rattle.deny_cfg.specs.declared.policy.PolicyError.{PolicyError}
 use Rattle.deny_cfg.specs.declared.policy.PolicyError.TheVariants as error
@@ -40,7 +39,7 @@ use Rattle.deny_cfg.specs.declared.policy.PolicyError.TheVariants as error
 pub config_weaker : (P Q : List ConfigFault → Type 0) (e : PolicyError)
     → ((faults : List ConfigFault) → P faults → Q faults) → IsConfig P e → IsConfig Q e
 config_weaker P Q (error.Config faults) more is = more faults is
-config_weaker P Q (error.Invalid told) more is = is
+config_weaker P Q (error.Invalid reported) more is = is
 config_weaker P Q error.Memory more is = is
 
 -- a fault that is the only one of its text
@@ -50,9 +49,10 @@ single_listed text fault faults are is =
     subst (ListsFaults text) (sym is) record { are = are; some = λ none. cc; ascending = single_ascends fault }
 
 pub toml_listed : (text : List ℕ) (of : TomlKind) (span : Span) (faults : List ConfigFault) → IsUtf8 text
-    → IsFaultOf text of span → IsRange text span
+    → IsFaultOf text of span → IsSpan text span
     → faults ≡ fault_at (kind_of of) [] span ∷ [] → ListsFaults text faults
-toml_listed text of span faults utf8 fault range is = single_listed text _ faults (no_toml of span utf8 fault range) is
+toml_listed text of span faults utf8 fault within is =
+    single_listed text _ faults (no_toml of span utf8 fault within) is
 
 pub utf8_listed : (text : List ℕ) (faults : List ConfigFault) → ¬ IsUtf8 text
     → faults ≡ fault_at kind.NotUtf8 [] no_span ∷ [] → ListsFaults text faults
@@ -70,33 +70,33 @@ nothing_mapped : {A B : Type 0} (f : A → B) (xs : List A) → map f xs ≡ [] 
 nothing_mapped f [] e = refl
 nothing_mapped f (x ∷ xs) e = cc
 
--- where nothing is told, nothing clashes
-pub none_told : (text : List ℕ) (config : Config) (file : ℕ) (told : List Diagnostic) → AreClashes text config file told
-    → told ≡ [] → (found : Clash) → IsClash text config found → ⊥
-none_told text config file told are none found is =
-    let empty : are.clashes ≡ [] = nothing_mapped (clash_told file) are.clashes (sym are.is ∙ none) in
+-- without diagnostics there are no clashes
+pub none_reported : (text : List ℕ) (config : Config) (file : ℕ) (reported : List Diagnostic)
+    → AreClashes text config file reported → reported ≡ [] → (found : Clash) → IsClash text config found → ⊥
+none_reported text config file reported are none found is =
+    let empty : are.clashes ≡ [] = nothing_mapped (clash_diag file) are.clashes (sym are.is ∙ none) in
     no_member found (subst (λ (xs : List Clash). Contains xs found) empty (are.listed.whole found is))
 
--- clashes come first, and then the warnings: as many are told where there are none
-pub none_before : {T : Type 0} (clashes warnings told : List T) → told ≡ clashes ++ warnings
-    → length told ≡ length warnings → clashes ≡ []
-none_before [] warnings told is long = refl
-none_before (x ∷ xs) warnings told is long =
+-- there are no clashes exactly where there are as many diagnostics as warnings
+pub none_before : {T : Type 0} (clashes warnings reported : List T) → reported ≡ clashes ++ warnings
+    → length reported ≡ length warnings → clashes ≡ []
+none_before [] warnings reported is long = refl
+none_before (x ∷ xs) warnings reported is long =
     absurd (omega (arith, ap length is, length-append (x ∷ xs) warnings, long))
 
--- and without the warnings the clashes are left
-pub first_left : {T : Type 0} (clashes warnings told : List T) (count : ℕ) → told ≡ clashes ++ warnings
-    → count ≡ length told - length warnings → take count told ≡ clashes
-first_left clashes warnings told count is long =
+-- the diagnostics without the warnings are the clashes
+pub first_left : {T : Type 0} (clashes warnings reported : List T) (count : ℕ) → reported ≡ clashes ++ warnings
+    → count ≡ length reported - length warnings → take count reported ≡ clashes
+first_left clashes warnings reported count is long =
     let same : count ≡ length clashes =
     omega (arith, long, ap length is, length-append clashes warnings) in
     (λ i. take (same i) (is i)) ∙ take-append_seam clashes warnings
 
--- a list that was empty holds what it gains
+-- a list that was empty has what it gains
 pub gained : {T : Type 0} (P : List T → Type 0) (old new : List T) → old ≡ [] → Gains P old new → P new
 gained P old new none gains = subst P (sym (gains.behind ∙ ap (λ xs. xs ++ gains.more) none)) gains.are
 
--- what the files hold
+-- ---- the files
 kept_policy : (bytes text : List ℕ) (old mid new more : List File) → text ≡ bytes
     → mid ≡ old ++ policy_file text ∷ [] → new ≡ mid ++ more → new ≡ old ++ policy_file bytes ∷ more
 kept_policy bytes text old mid new more same put added =
@@ -111,12 +111,7 @@ kept_policies (Ok policy) bytes text old mid new same put added =
     kept_policy bytes text old mid new (globs_files (builtin_file_of policy.bans)) same put added
 kept_policies (Err e) bytes text old mid new same put added = tt
 
--- the text of the file that was put last
-pub last_source : (files : List File) (file : File) → source_in (files ++ file ∷ []) (length files) ≡ file.source
-last_source [] file = refl
-last_source (f ∷ files) file = last_source files file
-
--- a text that is UTF-8 was put behind the files
+-- a text that is UTF-8 is added behind the files
 kept_text : (bytes : List ℕ) (old mid : List File) → IsUtf8 bytes → mid ≡ old ++ policy_file bytes ∷ []
     → Keeps bytes old mid
 kept_text bytes old mid utf8 put = record { utf8 = λ _. put; other = λ not. absurd (not utf8) }
@@ -125,7 +120,7 @@ kept_at : (e : PolicyError) (bytes : List ℕ) (old mid new : List File) → IsU
     → mid ≡ old ++ policy_file bytes ∷ [] → AddsOnError e bytes mid new → KeepsOnError e bytes old new
 kept_at (error.Config faults) bytes old mid new utf8 put adds =
     subst (Keeps bytes old) (sym adds) (kept_text bytes old mid utf8 put)
-kept_at (error.Invalid told) bytes old mid new utf8 put adds =
+kept_at (error.Invalid reported) bytes old mid new utf8 put adds =
     subst (λ files. AddsFiles bytes files new) put adds
 kept_at error.Memory bytes old mid new utf8 put (inl same) =
     inr (inl (subst (Keeps bytes old) (sym same) (kept_text bytes old mid utf8 put)))
@@ -150,27 +145,27 @@ on_error_more (Err e) P Q more is = more is
 
 pub no_policy_of : (text : List ℕ) (file : ℕ) (e : PolicyError) → IsConfig (ListsFaults text) e → IsNoPolicy text file e
 no_policy_of text file (error.Config faults) is = is
-no_policy_of text file (error.Invalid told) is = absurd is
+no_policy_of text file (error.Invalid reported) is = absurd is
 no_policy_of text file error.Memory is = tt
 
--- nothing was added where the text has faults, or memory was wanting
+-- nothing is added where the text has faults, or perhaps when out of memory
 pub none_added : (e : PolicyError) (P : List ConfigFault → Type 0) (text : List ℕ) (files : List File) → IsConfig P e
     → AddsOnError e text files files
 none_added (error.Config faults) P text files is = refl
-none_added (error.Invalid told) P text files is = absurd is
+none_added (error.Invalid reported) P text files is = absurd is
 none_added error.Memory P text files is = inl refl
 
--- what is told of a configuration: its clashes, and then its warnings
-pub told_of : (source : List ℕ) (config : Config) (file : ℕ) (clashes : List Clash)
+-- the diagnostics of a configuration: its clashes, and then its warnings
+reported_of : (source : List ℕ) (config : Config) (file : ℕ) (clashes : List Clash)
     → Lists clash_cmp (IsClash source config) clashes
-    → AreTold source config file (map (clash_told file) clashes ++ warnings_of file config)
-told_of source config file clashes listed = record {
-  clashes = map (clash_told file) clashes;
+    → AreReported source config file (map (clash_diag file) clashes ++ warnings_of file config)
+reported_of source config file clashes listed = record {
+  clashes = map (clash_diag file) clashes;
   are = record { clashes = clashes; listed = listed; is = refl };
   is = refl;
 }
 
--- a prefix of the first part is one of both
+-- a prefix of the first part is a prefix of both parts
 gains_first : {T : Type 0} (first second old new : List T) → GainsPrefix first old new
     → GainsPrefix (first ++ second) old new
 gains_first first second old new gains = elim (cases_lt gains.count (length first)) [
@@ -187,22 +182,22 @@ gains_first first second old new gains = elim (cases_lt gains.count (length firs
   }
 ]
 
-pub told_first : (source : List ℕ) (config : Config) (file : ℕ) (clashes given : List Clash) (old new : List Diagnostic)
-    → Lists clash_cmp (IsClash source config) clashes → given ≡ clashes
-    → GainsPrefix (map (clash_told file) given) old new
-    → GainsPrefixOf (AreTold source config file) old new
-told_first source config file clashes given old new listed same gains =
-    let told = map (clash_told file) clashes in
+pub reported_first : (source : List ℕ) (config : Config) (file : ℕ) (clashes given : List Clash)
+    (old new : List Diagnostic) → Lists clash_cmp (IsClash source config) clashes → given ≡ clashes
+    → GainsPrefix (map (clash_diag file) given) old new
+    → GainsPrefixOf (AreReported source config file) old new
+reported_first source config file clashes given old new listed same gains =
+    let reported = map (clash_diag file) clashes in
     inr (
-      told ++ warnings_of file config,
-      told_of source config file clashes listed,
-      gains_first told (warnings_of file config) old new
-          (subst (λ cs. GainsPrefix (map (clash_told file) cs) old new) same gains),
+      reported ++ warnings_of file config,
+      reported_of source config file clashes listed,
+      gains_first reported (warnings_of file config) old new
+          (subst (λ cs. GainsPrefix (map (clash_diag file) cs) old new) same gains),
     )
 
--- all of it was told
-pub told_whole : (source given : List ℕ) (config : Config) (file : ℕ) (old new : List Diagnostic) → given ≡ source
-    → Gains (AreTold given config file) old new → GainsPrefixOf (AreTold source config file) old new
-told_whole source given config file old new same gains =
-    gains_whole_of (AreTold source config file) gains.more old new
-    (subst (λ text. AreTold text config file gains.more) same gains.are) gains.behind
+-- all diagnostics are reported
+pub reported_whole : (source given : List ℕ) (config : Config) (file : ℕ) (old new : List Diagnostic) → given ≡ source
+    → Gains (AreReported given config file) old new → GainsPrefixOf (AreReported source config file) old new
+reported_whole source given config file old new same gains =
+    gains_whole_of (AreReported source config file) gains.more old new
+    (subst (λ text. AreReported text config file gains.more) same gains.are) gains.behind

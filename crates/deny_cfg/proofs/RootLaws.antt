@@ -8,15 +8,15 @@ use Rattle.deny_toml.specs.Faults.{in_order}
 use Rattle.deny_toml.specs.TableHelper.{optional_faults}
 use Rattle.deny_toml.specs.TableHelper as helper
 use Rattle.deny_toml.specs.Value.{entries_in, table_with}
-use Rattle.deny_toml.specs.declared.error.ConfigFault.{ConfigFault}
+use Rattle.deny_toml.specs.error.ConfigFault.{ConfigFault}
 use Rattle.deny_toml.specs.value.Table.{Table}
 use Rattle.deny_toml.specs.value.Value.{Value}
-use Rattle.deny_entries.proofs.TableLaws.{none_first, none_rest, optional_read, read_in, value_at-without}
-use Rattle.deny_entries.specs.Table.{Entries, ReadsIn, ReadsIfThere, ReadsTable}
-use Rattle.deny_tables.specs.Config.{ReadsConfig, faults_of_config}
-use Rattle.deny_tables.specs.Licenses.{ReadsLicenses, faults_of_licenses}
-use Rattle.deny_tables.specs.declared.bans.cfg.config.Config.{Config}
-use Rattle.deny_tables.specs.declared.licenses.config.Config as licenses
+use Rattle.deny_cfg_entries.proofs.TableLaws.{none_first, none_rest, optional_read, read_in, value_at-without}
+use Rattle.deny_cfg_entries.specs.Table.{Entries, ReadsIn, ReadsIfThere, ReadsTable}
+use Rattle.deny_cfg_tables.specs.Config.{ReadsConfig, faults_of_config}
+use Rattle.deny_cfg_tables.specs.Licenses.{ReadsLicenses, faults_of_licenses}
+use Rattle.deny_cfg_tables.specs.declared.bans.cfg.config.Config.{Config}
+use Rattle.deny_cfg_tables.specs.declared.licenses.config.Config as licenses
 use Rattle.deny_cfg.specs.PolicyText.{ReadsBans, ReadsLicensing, bans_name, faults_of_tree, licenses_name}
 
 named_in : (name : List ℕ) (t : Option Table) (o : Option Value)
@@ -25,14 +25,14 @@ named_in : (name : List ℕ) (t : Option Table) (o : Option Value)
 named_in name None o reads = absurd reads
 named_in name (Some t) o reads = reads
 
--- what a value that is this table holds at a name
+-- the value of this table at a name
 below_with : (name : List ℕ) (v : Value) (entries : Entries) → table_in v ≡ Some (table_with entries)
     → below_name name v ≡ value_at name entries
 below_with name v entries table =
     named_in name (table_in v) (value_at name entries)
     (read_in (λ es found. value_at name es ≡ found) v entries (value_at name entries) table refl)
 
--- the faults of the two tables, by what the root holds at their names
+-- the faults of the two tables, by the values of the root at their names
 faults_at : Option Value → Option Value → List ConfigFault
 faults_at bans licensing =
     optional_faults faults_of_config bans_name bans ++ optional_faults faults_of_licenses licenses_name licensing
@@ -54,7 +54,7 @@ pub no_root : (v : Value) (table : Option (Bor Table)) → option_copied table �
 no_root v None copied none = no_table v (sym copied)
 no_root v (Some t) copied none = cc none
 
--- a table that is left out gives its defaults
+-- a table that is left out has its defaults
 bans_or : (o : Option Value) (read : Option Config) (default x : Config) → ReadsIfThere (ReadsTable ReadsConfig) o read
     → ReadsConfig [] default → x ≡ unwrap_or read default → ReadsBans o x
 bans_or None read default x reads defaults is =
@@ -62,7 +62,7 @@ bans_or None read default x reads defaults is =
 bans_or (Some v) None default x reads defaults is = absurd reads
 bans_or (Some v) (Some y) default x reads defaults is = subst (ReadsTable ReadsConfig v) (sym is) reads
 
--- the same by what the helper says of it
+-- a table that is left out has its defaults, as the helper reads it
 pub bans_given : (o : Option Value) (read : Option Config) (default x : Config)
     → helper.ReadsOptional faults_of_config (ReadsTable ReadsConfig) o read
     → ReadsConfig [] default → x ≡ unwrap_or read default
@@ -71,7 +71,7 @@ bans_given o read default x says defaults is none =
     bans_or o read default x (optional_read faults_of_config (ReadsTable ReadsConfig) bans_name o read says none)
     defaults is
 
--- `bans` was taken out of the root first
+-- `bans` is taken out of the root first
 module _ (entries rest : Entries) (left : rest ≡ without bans_name entries) where
   licensing_left : value_at licenses_name rest ≡ value_at licenses_name entries
   licensing_left =
@@ -85,7 +85,7 @@ module _ (entries rest : Entries) (left : rest ≡ without bans_name entries) wh
       optional_read faults_of_licenses (ReadsTable ReadsLicenses) licenses_name (value_at licenses_name entries) read
       (subst (λ o. helper.ReadsOptional faults_of_licenses (ReadsTable ReadsLicenses) o read) licensing_left says) none
 
-  -- the faults of both were kept
+  -- the faults of both tables are kept
   pub both_kept : (kept found end : List ConfigFault)
       → found ≡ kept ++ optional_faults faults_of_config bans_name (value_at bans_name entries)
       → end ≡ found ++ optional_faults faults_of_licenses licenses_name (value_at licenses_name rest)
@@ -98,13 +98,13 @@ module _ (entries rest : Entries) (left : rest ≡ without bans_name entries) wh
       ∙ append_assoc kept (optional_faults faults_of_config bans_name (value_at bans_name entries))
       (optional_faults faults_of_licenses licenses_name (value_at licenses_name entries)))
 
--- what is given where something holds is this, of which that says more
+-- a stronger property of the same value
 pub ok_given : {T E : Type 0} (r : Result T E) (x : T) (Holds : Type 0) (P : T → Type 0) → IfOk r (λ y. Holds)
     → IfOk r (λ y. y ≡ x) → (Holds → P x) → IfOk r P
 ok_given (Ok y) x Holds P holds same more = subst P (sym same) (more holds)
 ok_given (Err e) x Holds P holds same more = tt
 
--- what a root of these entries says
+-- what is read from a root of these entries
 module _ (v : Value) (entries : Entries) (table : table_in v ≡ Some (table_with entries)) where
   bans_at : below_name bans_name v ≡ value_at bans_name entries
   bans_at = below_with bans_name v entries table
@@ -112,7 +112,7 @@ module _ (v : Value) (entries : Entries) (table : table_in v ≡ Some (table_wit
   licensing_at : below_name licenses_name v ≡ value_at licenses_name entries
   licensing_at = below_with licenses_name v entries table
 
-  -- its faults, which were kept after none, are those of its tables
+  -- the faults that the root keeps are those of its tables
   pub root_faults : (kept found : List ConfigFault) → kept ≡ []
       → found ≡ kept
       ++ (optional_faults faults_of_config bans_name (value_at bans_name entries)
@@ -130,7 +130,7 @@ module _ (v : Value) (entries : Entries) (table : table_in v ≡ Some (table_wit
       (λ i. faults_at (sym bans_at i) (sym licensing_at i))
       ∙ in_order-empty (faults_at (below_name bans_name v) (below_name licenses_name v)) (sym (of_root v) ∙ none)
 
-  -- what was read of them where there are none
+  -- what is read from its tables where there are no faults
   pub root_bans : (x : Config) → faults_of_tree v ≡ []
       → (optional_faults faults_of_config bans_name (value_at bans_name entries) ≡ []
       → ReadsBans (value_at bans_name entries) x)

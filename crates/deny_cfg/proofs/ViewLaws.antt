@@ -6,33 +6,36 @@ use Rattle.std.specs.List.{AllZip}
 use Rattle.std.specs.Option.{option_eq, option_map_or}
 use Rattle.semver.specs.Identifiers.{parts_of}
 use Rattle.deny_base.specs.declared.span.Span.{Span}
-use Rattle.deny_model.specs.Policy.{Ban, Entry, Root, Spec, Words}
-use Rattle.deny_model.specs.Text.{same_text}
+use Rattle.deny_spec.specs.Policy.{AllowEntry, Ban, Entry, Root, Spec, SpannedText}
+use Rattle.deny_spec.specs.Text.{same_text}
 use Rattle.deny_cfg.specs.Clashes.{banned_specs, clash_with, clashes_in, feature_at, feature_clash, feature_clashes}
 use Rattle.deny_cfg.specs.Clashes.{is_ban, specs_of, two_spans, wrappers_clash, wrappers_clash_by}
-use Rattle.deny_cfg.specs.PolicyView.{ban_view, entry_view, feature_view, policy_view, reason_words, replacing_view}
+use Rattle.deny_cfg.specs.PolicyView.{allow_view, ban_view, entry_view, feature_view, policy_view, reason_words}
+use Rattle.deny_cfg.specs.PolicyView.{replacing_view}
 use Rattle.deny_cfg.specs.PolicyView.{root_view, roots_from, scope_view, sharing_view, words_or_none}
-use Rattle.deny_tables.specs.Highlight.{shows_lowest, shows_simplest}
-use Rattle.deny_entries.specs.SpecView.{same_spec, spec_view}
+use Rattle.deny_cfg_tables.specs.Highlight.{shows_lowest, shows_simplest}
+use Rattle.deny_cfg_entries.specs.SpecView.{same_spec, spec_view}
 use Rattle.deny_cfg.specs.Valid.{IsValidOf, ban_of, features_of, is_multiple, krate_ban}
-use Rattle.deny_tables.specs.declared.bans.cfg.ban.CrateBanExtended.{CrateBanExtended}
-use Rattle.deny_tables.specs.declared.bans.cfg.config.Config.{Config}
-use Rattle.deny_tables.specs.declared.bans.cfg.features.CrateFeatures.{CrateFeatures}
-use Rattle.deny_tables.specs.declared.bans.cfg.tree_skip.TreeSkipExtended.{TreeSkipExtended}
+use Rattle.deny_cfg_tables.specs.declared.bans.cfg.ban.CrateBanExtended.{CrateBanExtended}
+use Rattle.deny_cfg_tables.specs.declared.bans.cfg.config.Config.{Config}
+use Rattle.deny_cfg_tables.specs.declared.bans.cfg.features.CrateFeatures.{CrateFeatures}
+use Rattle.deny_cfg_tables.specs.declared.bans.cfg.tree_skip.TreeSkipExtended.{TreeSkipExtended}
 use Rattle.deny_cfg.specs.declared.bans.cfg.valid.KrateBan.{KrateBan}
 use Rattle.deny_cfg.specs.declared.bans.cfg.valid.ValidConfig.{ValidConfig}
 use Rattle.deny_cfg.specs.declared.bans.cfg.valid.ValidKrateFeatures.{ValidKrateFeatures}
 use Rattle.deny_cfg.specs.declared.clash.Clash.{Clash}
 use Rattle.deny_cfg.specs.declared.clash.ClashKind.{ClashKind}
 use Rattle.deny_cfg.specs.declared.clash.ClashKind.TheVariants as clash
-use Rattle.deny_entries.specs.declared.package_spec.PackageSpec.{PackageSpec}
-use Rattle.deny_entries.specs.declared.reason.Reason.{Reason}
-use Rattle.deny_entries.specs.declared.spec_or_extended.PackageSpecOrExtended.{PackageSpecOrExtended}
-use Rattle.deny_tables.proofs.ConfigLaws.{BothAlike, ConfigsAlike, EntriesAlike, FeaturesAlike, StdAlike, VersionsAlike}
-use Rattle.deny_lists.proofs.Alike.{Same, alike_filter, alike_map, same_filter_map, same_find, same_flat_map, same_map}
-use Rattle.deny_entries.proofs.ReadsLaws.{SpecsAlike}
+use Rattle.deny_cfg_entries.specs.declared.package_spec.PackageSpec.{PackageSpec}
+use Rattle.deny_cfg_entries.specs.declared.reason.Reason.{Reason}
+use Rattle.deny_cfg_entries.specs.declared.spec_or_extended.PackageSpecOrExtended.{PackageSpecOrExtended}
+use Rattle.deny_cfg_tables.proofs.ConfigLaws.{BothAlike, ConfigsAlike, EntriesAlike, FeaturesAlike, StdAlike}
+use Rattle.deny_cfg_tables.proofs.ConfigLaws.{VersionsAlike}
+use Rattle.deny_base_lists.proofs.Alike.{Same, alike_filter, alike_map, same_filter_map, same_find, same_flat_map}
+use Rattle.deny_base_lists.proofs.Alike.{same_map}
+use Rattle.deny_cfg_entries.proofs.ReadsLaws.{SpecsAlike}
 
--- whether an entry bans hangs on what it says besides its spec
+-- whether an entry bans depends on what it gives beside its spec
 says_ban : Option CrateBanExtended → Bool
 says_ban inner =
     not (option_map_or (λ flag. flag.value) (option_and_then (λ said. said.deny_multiple_versions) inner) false)
@@ -53,7 +56,7 @@ same_wrappers_clash : Same EntriesAlike wrappers_clash wrappers_clash
 unfolding wrappers_clash says_clash
 same_wrappers_clash a b alike = ap says_clash alike.1
 
--- specs that are alike clash with the same
+-- specs that are alike have the same clashes
 sees_same : Spec → Spec → Bool
 sees_same s t = same_text s.name t.name && option_eq same_text s.written t.written
 
@@ -63,7 +66,7 @@ same_specs a b alike x y too = λ i. sees_same (alike i) (too i)
 
 same_spans : (kind : ClashKind) (a b : PackageSpec) → SpecsAlike a b
     → Same SpecsAlike (λ x. two_spans kind a.name.span x.name.span) (λ x. two_spans kind b.name.span x.name.span)
-same_spans kind a b alike x y too = λ i. two_spans kind (alike i).range (too i).range
+same_spans kind a b alike x y too = λ i. two_spans kind (alike i).span (too i).span
 
 same_clash_with : (kind : ClashKind) (others those : List PackageSpec) → AllZip SpecsAlike others those
     → Same SpecsAlike (clash_with kind others) (clash_with kind those)
@@ -90,14 +93,14 @@ banned_specs_alike a b alike =
     entry_specs_alike (filter is_ban a.deny) (filter is_ban b.deny)
     (alike_filter EntriesAlike is_ban same_is_ban a.deny b.deny alike.deny)
 
-says_features : Span → List Words → List Words → List Clash
+says_features : Span → List SpannedText → List SpannedText → List Clash
 says_features name denied allowed =
     filter_map (λ word. option_map (λ other. feature_at name word other.span)
     (find (λ other. same_text word.value other.value) denied)) allowed
 
 same_feature_clashes : Same FeaturesAlike feature_clashes feature_clashes
 unfolding feature_clashes feature_clash says_features
-same_feature_clashes a b alike = λ i. says_features (alike.0 i).range (alike.1 i).deny (alike.1 i).allow.value
+same_feature_clashes a b alike = λ i. says_features (alike.0 i).span (alike.1 i).deny (alike.1 i).allow.value
 
 pub same_clashes : (a b : Config) → ConfigsAlike a b → clashes_in a ≡ clashes_in b
 unfolding clashes_in
@@ -121,7 +124,7 @@ same_clashes a b alike =
     alike.features in
     λ i. wrappers i ++ (deny_allow i ++ (deny_skip i ++ (allow_skip i ++ features i)))
 
--- the views of entries
+-- ---- the views of entries
 ban_seen : Spec → Option KrateBan → Ban
 ban_seen spec inner = record {
   spec = spec;
@@ -133,6 +136,13 @@ ban_seen spec inner = record {
 same_ban : Same EntriesAlike ban_view ban_view
 unfolding ban_seen
 same_ban a b alike = λ i. ban_seen (alike.0 i) (alike.1 i)
+
+allow_seen : Spec → Option Reason → AllowEntry
+allow_seen spec inner = record { spec = spec; reason = option_map reason_words inner }
+
+same_allow : Same EntriesAlike allow_view allow_view
+unfolding allow_seen
+same_allow a b alike = λ i. allow_seen (alike.0 i) (alike.1 i)
 
 entry_seen : Spec → Option Reason → Entry
 entry_seen spec inner = record { spec = spec; reason = option_map reason_words inner }
@@ -217,7 +227,7 @@ same_replacing a b alike =
       ignore_rust_version = scope_view (alike.ignore_rust_version i);
     }
 
--- the view of a configuration that was found valid
+-- the view of a valid configuration
 pub same_view : (a b : Config) (file next number following : ℕ) (these those : ValidConfig) → ConfigsAlike a b
     → IsValidOf a file next these → IsValidOf b number following those
     → policy_view these ≡ policy_view those
@@ -230,9 +240,9 @@ same_view a b file next number following these those alike one two =
     ap (map spec_view) one.denied_multiple_versions ∙ same_multiple a b alike
     ∙ sym (ap (map spec_view) two.denied_multiple_versions) in
     let allow =
-    ap (map entry_view) one.allowed
-    ∙ same_map EntriesAlike entry_view entry_view same_entry a.allow b.allow alike.allow
-    ∙ sym (ap (map entry_view) two.allowed) in
+    ap (map allow_view) one.allowed
+    ∙ same_map EntriesAlike allow_view allow_view same_allow a.allow b.allow alike.allow
+    ∙ sym (ap (map allow_view) two.allowed) in
     let allow_workspace = one.allow_workspace ∙ alike.allow_workspace ∙ sym two.allow_workspace in
     let skip =
     ap (map entry_view) one.skipped

@@ -1,4 +1,4 @@
--- Which entries of a policy contradict each other, what is wrong in its table `build`, and what is told of it.
+-- The clashes between entries of a policy, the faults of its table `build`, and their diagnostics.
 use Rattle.std.specs.Prelude.{◌&&◌, ◌==◌, ◌++◌, ◌≡◌, ◌⊎◌, ℕ, Bool, false, true, not, List, [], ◌∷◌, Option, None, Some}
 use Rattle.std.specs.Prelude.{filter, find, length, map, filter_map, option_map, option_and_then, codes, Contains}
 use Rattle.std.specs.Prelude.{if◌then◌else◌}
@@ -7,7 +7,7 @@ use Rattle.std.specs.List.{flat_map}
 use Rattle.std.specs.Option.{option_map_or}
 use Rattle.std.specs.Ordering.{bool_cmp, nat_cmp, on, then_cmp}
 use Rattle.std.specs.declared.cmp.Ordering.{Ordering}
-use Rattle.deny_lists.specs.Ascending.{Lists}
+use Rattle.deny_base_lists.specs.Ascending.{Lists}
 use Rattle.deny_base.specs.KeyOrder.{span_cmp}
 use Rattle.deny_base.specs.declared.finding.Diagnostic.{Diagnostic}
 use Rattle.deny_base.specs.declared.label.Label.{Label}
@@ -16,28 +16,28 @@ use Rattle.deny_base.specs.declared.label.LabelStyle.TheVariants.{Primary, Secon
 use Rattle.deny_base.specs.declared.level.Severity.TheVariants.{Error}
 use Rattle.deny_base.specs.declared.span.Span.{Span}
 use Rattle.deny_base.specs.declared.span.Spanned.{Spanned}
-use Rattle.deny_build_cfg.specs.Wrong.{IsWrong}
-use Rattle.deny_build_cfg.specs.declared.wrong.BuildFault.{BuildFault}
-use Rattle.deny_build_cfg.specs.declared.wrong.BuildFault.TheVariants as fault
-use Rattle.deny_entries.specs.SpecView.{same_spec}
-use Rattle.deny_tables.specs.declared.bans.cfg.ban.CrateBanExtended.{CrateBanExtended}
-use Rattle.deny_tables.specs.declared.bans.cfg.build.BuildConfig.{BuildConfig}
-use Rattle.deny_tables.specs.declared.bans.cfg.config.Config.{Config}
-use Rattle.deny_tables.specs.declared.bans.cfg.features.CrateFeatures.{CrateFeatures}
+use Rattle.deny_cfg_build.specs.Wrong.{IsWrong}
+use Rattle.deny_cfg_build.specs.declared.wrong.BuildFault.{BuildFault}
+use Rattle.deny_cfg_build.specs.declared.wrong.BuildFault.TheVariants as fault
+use Rattle.deny_cfg_entries.specs.SpecView.{same_spec}
+use Rattle.deny_cfg_tables.specs.declared.bans.cfg.ban.CrateBanExtended.{CrateBanExtended}
+use Rattle.deny_cfg_tables.specs.declared.bans.cfg.build.BuildConfig.{BuildConfig}
+use Rattle.deny_cfg_tables.specs.declared.bans.cfg.config.Config.{Config}
+use Rattle.deny_cfg_tables.specs.declared.bans.cfg.features.CrateFeatures.{CrateFeatures}
 use Rattle.deny_cfg.specs.declared.clash.Clash.{Clash}
 use Rattle.deny_cfg.specs.declared.clash.ClashKind.{ClashKind}
 use Rattle.deny_cfg.specs.declared.clash.ClashKind.TheVariants as clash
-use Rattle.deny_entries.specs.declared.package_spec.PackageSpec.{PackageSpec}
-use Rattle.deny_entries.specs.declared.spec_or_extended.PackageSpecOrExtended.{PackageSpecOrExtended}
-use Rattle.deny_model.specs.Policy.{Words}
-use Rattle.deny_model.specs.Keys.{no_span}
-use Rattle.deny_model.specs.Text.{same_text}
+use Rattle.deny_cfg_entries.specs.declared.package_spec.PackageSpec.{PackageSpec}
+use Rattle.deny_cfg_entries.specs.declared.spec_or_extended.PackageSpecOrExtended.{PackageSpecOrExtended}
+use Rattle.deny_spec.specs.Policy.{SpannedText}
+use Rattle.deny_spec.specs.Keys.{no_span}
+use Rattle.deny_spec.specs.Text.{same_text}
 
--- what the entry says of several versions
+-- the flag of an entry of `deny`, where it has one
 abbrev pub flag_of : PackageSpecOrExtended CrateBanExtended → Option (Spanned Bool)
 flag_of e = option_and_then (λ said. said.deny_multiple_versions) e.inner
 
--- an entry of `deny` bans, unless it denies several versions alone
+-- an entry of `deny` bans crates, unless it denies only several versions
 unfoldable pub is_ban : PackageSpecOrExtended CrateBanExtended → Bool
 is_ban e = not (option_map_or (λ flag. flag.value) (flag_of e) false)
 
@@ -51,8 +51,8 @@ two_spans kind first second = record {
   ascii = false;
 }
 
--- an entry that denies several versions alone names no wrappers
-abbrev pub wrappers_clash_by : Option (Spanned Bool) → Option (Spanned (List Words)) → Option Clash
+-- the clash of wrappers with the flag of an entry that denies only several versions
+abbrev pub wrappers_clash_by : Option (Spanned Bool) → Option (Spanned (List SpannedText)) → Option Clash
 wrappers_clash_by (Some flag) (Some wrappers) =
     if flag.value && not (length wrappers.value == 0)
     then Some (record {
@@ -70,7 +70,7 @@ wrappers_clash_by _ _ = None
 unfoldable pub wrappers_clash : PackageSpecOrExtended CrateBanExtended → Option Clash
 wrappers_clash e = wrappers_clash_by (flag_of e) (option_and_then (λ said. said.wrappers) e.inner)
 
--- a spec, and the first equal one of some entries
+-- the clash of a spec with the first equal one of some entries
 unfoldable pub clash_with : ClashKind → List PackageSpec → PackageSpec → Option Clash
 clash_with kind others spec =
     option_map (λ other. two_spans kind spec.name.span other.name.span) (find (same_spec spec) others)
@@ -81,8 +81,8 @@ specs_of entries = map (λ e. e.spec) entries
 unfoldable pub banned_specs : Config → List PackageSpec
 banned_specs config = specs_of (filter is_ban config.deny)
 
--- an allowed feature, and the first equal denied one of the same entry
-abbrev pub feature_at : Span → Words → Span → Clash
+-- the clash of an allowed feature with a denied one of the same entry
+abbrev pub feature_at : Span → SpannedText → Span → Clash
 feature_at name allowed denied = record {
   kind = clash.FeatureTwice;
   first = name;
@@ -92,7 +92,7 @@ feature_at name allowed denied = record {
   ascii = false;
 }
 
-unfoldable pub feature_clash : CrateFeatures → Words → Option Clash
+unfoldable pub feature_clash : CrateFeatures → SpannedText → Option Clash
 feature_clash entry allowed = option_map
     (λ denied. feature_at entry.spec.name.span allowed denied.span)
     (find (λ denied. same_text allowed.value denied.value) entry.deny)
@@ -107,12 +107,12 @@ clashes_in config = filter_map wrappers_clash config.deny
     ++ (filter_map (clash_with clash.AllowAndSkip (specs_of config.skip)) (specs_of config.allow)
     ++ flat_map feature_clashes config.features)))
 
--- what is wrong in a table `build`
+-- the clash for a fault of a table `build`
 abbrev pub build_clash : BuildFault → Clash
-build_clash (fault.NonAscii range) = two_spans clash.Extension range no_span
-build_clash (fault.NoLetter range byte) = record (two_spans clash.Extension range byte) { ascii = true }
-build_clash (fault.Glob range byte) = record (two_spans clash.Glob range no_span) { number = byte }
-build_clash (fault.Absolute range) = two_spans clash.Path range no_span
+build_clash (fault.NonAscii span) = two_spans clash.Extension span no_span
+build_clash (fault.NoLetter span byte) = record (two_spans clash.Extension span byte) { ascii = true }
+build_clash (fault.Glob span byte) = record (two_spans clash.Glob span no_span) { number = byte }
+build_clash (fault.Absolute span) = two_spans clash.Path span no_span
 
 pub record IsWrongIn (source : List ℕ) (build : BuildConfig) (found : Clash) : Type 0 where
   pub of : BuildFault
@@ -123,7 +123,7 @@ abbrev pub IsBuildClash : List ℕ → Option BuildConfig → Clash → Type 0
 IsBuildClash source None found = ⊥
 IsBuildClash source (Some build) found = IsWrongIn source build found
 
--- this clashes in a configuration that is read from the text
+-- a configuration that is read from the text has this clash
 abbrev pub IsClash : List ℕ → Config → Clash → Type 0
 IsClash source config found = Contains (clashes_in config) found ⊎ IsBuildClash source config.build found
 
@@ -140,7 +140,7 @@ kind_number clash.Path = 7
 abbrev pub kind_cmp : ClashKind → ClashKind → Ordering
 kind_cmp = on kind_number nat_cmp
 
--- by kind, then by the ranges of the labels
+-- the order of clashes: by kind, then by the spans of the labels
 abbrev pub clash_cmp : Clash → Clash → Ordering
 clash_cmp = then_cmp (on (λ c. c.kind) kind_cmp)
     (then_cmp (on (λ c. c.first) span_cmp)
@@ -181,7 +181,7 @@ feature_labels file c =
 abbrev pub one_label : ℕ → Clash → List ℕ → List Label
 one_label file c message = label_of Primary file c.first message ∷ []
 
--- an extension, and the first character of it that may not be there, where all are ASCII
+-- the labels of an extension, and of its first character that is not allowed where all are ASCII
 abbrev pub extension_labels : ℕ → Clash → List Label
 extension_labels file c =
     if c.ascii
@@ -199,8 +199,8 @@ clash_labels clash.Extension file c = extension_labels file c
 clash_labels clash.Glob file c = one_label file c []
 clash_labels clash.Path file c = one_label file c []
 
-unfoldable pub clash_told : ℕ → Clash → Diagnostic
-clash_told file c = record {
+unfoldable pub clash_diag : ℕ → Clash → Diagnostic
+clash_diag file c = record {
   severity = Error;
   code = None;
   message = clash_message c.kind c;
@@ -208,8 +208,8 @@ clash_told file c = record {
   notes = [];
 }
 
--- these diagnostics tell what clashes in a configuration that is read from the text, in order, each once
-pub record AreClashes (source : List ℕ) (config : Config) (file : ℕ) (told : List Diagnostic) : Type 0 where
+-- these diagnostics report the clashes of a configuration that is read from the text, in order, each once
+pub record AreClashes (source : List ℕ) (config : Config) (file : ℕ) (reported : List Diagnostic) : Type 0 where
   pub clashes : List Clash
   pub listed : Lists clash_cmp (IsClash source config) clashes
-  pub is : told ≡ map (clash_told file) clashes
+  pub is : reported ≡ map (clash_diag file) clashes

@@ -1,4 +1,4 @@
--- What is told of the older key that stands for the table `build`.
+-- The warning about the older key that stands for the table `build`.
 use Rattle.std.specs.Prelude.{◌++◌, ℕ, List, [], ◌∷◌, Option, Some, codes}
 use Rattle.std.specs.Option.{option_map_or}
 use Rattle.deny_base.specs.declared.code.DiagnosticCode.TheVariants as code
@@ -6,23 +6,23 @@ use Rattle.deny_base.specs.declared.finding.Diagnostic.{Diagnostic}
 use Rattle.deny_base.specs.declared.label.LabelStyle.TheVariants.{Primary}
 use Rattle.deny_base.specs.declared.level.Severity.TheVariants.{Warning}
 use Rattle.deny_base.specs.declared.span.Span.{Span}
-use Rattle.deny_tables.specs.declared.bans.cfg.config.Config.{Config}
+use Rattle.deny_cfg_tables.specs.declared.bans.cfg.config.Config.{Config}
 use Rattle.deny_cfg.specs.Clashes.{label_of}
 use Rattle.deny_cfg.specs.Valid.{older_key_of}
 
-unfoldable pub deprecated_told : ℕ → Span → Diagnostic
-deprecated_told file range = record {
+unfoldable pub deprecated_diag : ℕ → Span → Diagnostic
+deprecated_diag file span = record {
   severity = Warning;
   code = Some code.Deprecated;
   message = codes "[bans.allow-build-scripts] has been deprecated in favor of [bans.build.allow-build-scripts], "
       ++ codes "this will become an error in the future";
-  labels = label_of Primary file range [] ∷ [];
+  labels = label_of Primary file span [] ∷ [];
   notes = [];
 }
 
--- of the older key, if it stands for the table
+-- the warning about the older key, if that stands for the table
 abbrev pub warnings_by : ℕ → Option Span → List Diagnostic
-warnings_by file older_key = option_map_or (λ range. deprecated_told file range ∷ []) older_key []
+warnings_by file older_key = option_map_or (λ span. deprecated_diag file span ∷ []) older_key []
 
 abbrev pub warnings_of : ℕ → Config → List Diagnostic
 warnings_of file config = warnings_by file (older_key_of config)

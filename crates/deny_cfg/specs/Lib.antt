@@ -1,6 +1,6 @@
 pub mod Clashes
 pub mod Deprecated
-pub mod LabelRanges
+pub mod LabelSpans
 pub mod Lawful
 pub mod LicensingView
 pub mod PolicyText
@@ -8,30 +8,30 @@ pub mod PolicyView
 pub mod Valid
 pub mod Validating
 pub mod private
-pub use Rattle.deny_build_cfg.specs.BuildingView
-pub use Rattle.deny_entries.specs.Entry
-pub use Rattle.deny_entries.specs.PolicyKey
-pub use Rattle.deny_entries.specs.Reasons
-pub use Rattle.deny_entries.specs.Requirement
-pub use Rattle.deny_entries.specs.RustVersion
-pub use Rattle.deny_entries.specs.Spec
-pub use Rattle.deny_entries.specs.SpecView
-pub use Rattle.deny_entries.specs.Table
-pub use Rattle.deny_entries.specs.Words
-pub use Rattle.deny_tables.specs.Bans
-pub use Rattle.deny_tables.specs.Build
-pub use Rattle.deny_tables.specs.Checksum
-pub use Rattle.deny_tables.specs.Config
-pub use Rattle.deny_tables.specs.Features
-pub use Rattle.deny_tables.specs.Highlight
-pub use Rattle.deny_tables.specs.Licenses
-pub use Rattle.deny_tables.specs.StdReplacements
-pub use Rattle.deny_tables.specs.Workspace
-pub use Rattle.deny_entries.specs.declared.reason.Reason
-pub use Rattle.deny_entries.specs.declared.package_spec.PackageSpec
-pub use Rattle.deny_entries.specs.declared.scope.Scope
-pub use Rattle.deny_entries.specs.declared.spec_or_extended.PackageSpecOrExtended
-pub use Rattle.deny_tables.specs.declared.bans.cfg.tree_skip.TreeSkipExtended
-pub use Rattle.deny_tables.specs.declared.bans.cfg.std_replacements.StdReplacementConfig
-pub use Rattle.deny_tables.specs.declared.licenses.config.Config as LicensesConfig
-pub use Rattle.deny_tables.specs.declared.licenses.exception.Exception as LicensesException
+pub use Rattle.deny_cfg_build.specs.BuildingView
+pub use Rattle.deny_cfg_entries.specs.Entry
+pub use Rattle.deny_cfg_entries.specs.PolicyKey
+pub use Rattle.deny_cfg_entries.specs.Reasons
+pub use Rattle.deny_cfg_entries.specs.Requirement
+pub use Rattle.deny_cfg_entries.specs.RustVersion
+pub use Rattle.deny_cfg_entries.specs.Spec
+pub use Rattle.deny_cfg_entries.specs.SpecView
+pub use Rattle.deny_cfg_entries.specs.Table
+pub use Rattle.deny_cfg_entries.specs.Words
+pub use Rattle.deny_cfg_tables.specs.Bans
+pub use Rattle.deny_cfg_tables.specs.Build
+pub use Rattle.deny_cfg_tables.specs.Checksum
+pub use Rattle.deny_cfg_tables.specs.Config
+pub use Rattle.deny_cfg_tables.specs.Features
+pub use Rattle.deny_cfg_tables.specs.Highlight
+pub use Rattle.deny_cfg_tables.specs.Licenses
+pub use Rattle.deny_cfg_tables.specs.StdReplacements
+pub use Rattle.deny_cfg_tables.specs.Workspace
+pub use Rattle.deny_cfg_entries.specs.declared.reason.Reason
+pub use Rattle.deny_cfg_entries.specs.declared.package_spec.PackageSpec
+pub use Rattle.deny_cfg_entries.specs.declared.scope.Scope
+pub use Rattle.deny_cfg_entries.specs.declared.spec_or_extended.PackageSpecOrExtended
+pub use Rattle.deny_cfg_tables.specs.declared.bans.cfg.tree_skip.TreeSkipExtended
+pub use Rattle.deny_cfg_tables.specs.declared.bans.cfg.std_replacements.StdReplacementConfig
+pub use Rattle.deny_cfg_tables.specs.declared.licenses.config.Config as LicensesConfig
+pub use Rattle.deny_cfg_tables.specs.declared.licenses.exception.Exception as LicensesException

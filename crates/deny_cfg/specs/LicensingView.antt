@@ -1,10 +1,10 @@
--- What the rules see of what a policy says of licences.
+-- The licences of a policy as the rules see them.
 use Rattle.std.specs.Prelude.{Option, map, option_map}
-use Rattle.deny_model.specs.Licensing as model
-use Rattle.deny_model.specs.Licensing.{Licensing}
-use Rattle.deny_entries.specs.SpecView.{spec_view}
-use Rattle.deny_tables.specs.declared.licenses.config.Config.{Config}
-use Rattle.deny_tables.specs.declared.licenses.exception.Exception.{Exception}
+use Rattle.deny_spec.specs.Licensing as model
+use Rattle.deny_spec.specs.Licensing.{Licensing}
+use Rattle.deny_cfg_entries.specs.SpecView.{spec_view}
+use Rattle.deny_cfg_tables.specs.declared.licenses.config.Config.{Config}
+use Rattle.deny_cfg_tables.specs.declared.licenses.exception.Exception.{Exception}
 
 abbrev pub exception_view : Exception → model.Exception
 exception_view e = record { spec = spec_view e.spec; allow = e.allow }
@@ -19,6 +19,6 @@ licensing_view config = record {
   unused_allowed = config.unused_allowed;
 }
 
--- nothing where the policy does not write `licenses`
+-- none where the policy has no table `licenses`
 abbrev pub licensing_of : Option Config → Option Licensing
 licensing_of config = option_map licensing_view config

@@ -1,34 +1,34 @@
--- What a text says as a policy: its faults, what clashes in it, and the policy where there is neither.
+-- A text as a policy: its faults, its clashes, and the policy where it has neither.
 use Rattle.std.specs.Prelude.{◌≡◌, ◌≢◌, ◌+◌, ◌++◌, ◌⊎◌, ⊤, ℕ, All, List, [], ◌∷◌, Option, None, Some, codes, IsUtf8}
 use Rattle.std.specs.List.Sorted.{IsStrictlySortedBy}
 use Rattle.deny_base.specs.declared.files.File.{File}
 use Rattle.deny_base.specs.declared.finding.Diagnostic.{Diagnostic}
 use Rattle.deny_base.specs.declared.span.Span.{Span}
-use Rattle.deny_model.specs.Keys.{no_span}
+use Rattle.deny_spec.specs.Keys.{no_span}
 use Rattle.deny_toml.specs.Calls.{below_name}
 use Rattle.deny_toml.specs.Faults.{fault_at, fault_cmp, in_order}
 use Rattle.deny_toml.specs.Parser.{IsFaultOf, IsTreeOf}
-use Rattle.deny_toml.specs.Ranges.{IsRange}
+use Rattle.deny_toml.specs.Spans.{IsSpan}
 use Rattle.deny_toml.specs.TableHelper.{optional_faults}
-use Rattle.deny_toml.specs.declared.error.ConfigFault.{ConfigFault}
-use Rattle.deny_toml.specs.declared.error.FaultKind.{FaultKind}
-use Rattle.deny_toml.specs.declared.error.FaultKind.TheVariants as kind
+use Rattle.deny_toml.specs.error.ConfigFault.{ConfigFault}
+use Rattle.deny_toml.specs.error.FaultKind.{FaultKind}
+use Rattle.deny_toml.specs.error.FaultKind.TheVariants as kind
 use Rattle.deny_toml.specs.declared.error.TomlKind.{TomlKind}
 use Rattle.deny_toml.specs.declared.error.TomlKind.TheVariants as toml
 use Rattle.deny_toml.specs.value.Value.{Value}
 use Rattle.deny_cfg.specs.Clashes.{AreClashes, IsClash}
 use Rattle.deny_cfg.specs.Deprecated.{warnings_of}
-use Rattle.deny_tables.specs.Config.{ReadsConfig, faults_of_config}
-use Rattle.deny_tables.specs.Licenses.{ReadsLicenses, faults_of_licenses}
-use Rattle.deny_cfg.specs.LabelRanges.{told_ranges}
+use Rattle.deny_cfg_tables.specs.Config.{ReadsConfig, faults_of_config}
+use Rattle.deny_cfg_tables.specs.Licenses.{ReadsLicenses, faults_of_licenses}
+use Rattle.deny_cfg.specs.LabelSpans.{reported_spans}
 use Rattle.deny_cfg.specs.PolicyView.{builtin_file_of}
 use Rattle.deny_cfg.specs.declared.bans.cfg.valid.ValidConfig.{ValidConfig}
-use Rattle.deny_build_cfg.specs.Builtin.{builtin_file}
-use Rattle.deny_entries.specs.Table.{ReadsIfThere, ReadsTable}
+use Rattle.deny_cfg_build.specs.Builtin.{builtin_file}
+use Rattle.deny_cfg_entries.specs.Table.{ReadsIfThere, ReadsTable}
 use Rattle.deny_cfg.specs.Valid.{IsValidOf, files_asked}
 use Rattle.deny_cfg.specs.declared.clash.Clash.{Clash}
-use Rattle.deny_tables.specs.declared.bans.cfg.config.Config.{Config}
-use Rattle.deny_tables.specs.declared.licenses.config.Config as licenses
+use Rattle.deny_cfg_tables.specs.declared.bans.cfg.config.Config.{Config}
+use Rattle.deny_cfg_tables.specs.declared.licenses.config.Config as licenses
 use Rattle.deny_cfg.specs.declared.policy.Policy.{Policy}
 use Rattle.deny_cfg.specs.declared.policy.PolicyError.{PolicyError}
 use Rattle.deny_cfg.specs.declared.policy.PolicyError.TheVariants as error
@@ -40,7 +40,7 @@ abbrev pub licenses_name : List ℕ
 licenses_name = codes "licenses"
 
 -- the faults of a tree as a policy: those of its tables `bans` and `licenses`, in ascending order, each once; other
--- keys of the root pass unread
+-- keys of the root are not read
 unfoldable pub faults_of_tree : Value → List ConfigFault
 faults_of_tree v = in_order (
     optional_faults faults_of_config bans_name (below_name bans_name v)
@@ -51,29 +51,29 @@ abbrev pub kind_of : TomlKind → FaultKind
 kind_of toml.Grammar = kind.Grammar
 kind_of toml.Clash = kind.Clash
 
--- These are the faults of a text as a policy. One that is not UTF-8 has no other, nor has one that is no TOML.
+-- These are the faults of a text as a policy. A text that is not UTF-8, or no TOML, has that fault alone.
 pub data AreFaults (text : List ℕ) : List ConfigFault → Type 0 where
   not_utf8 : ¬ IsUtf8 text → AreFaults text (fault_at kind.NotUtf8 [] no_span ∷ [])
-  no_toml : (of : TomlKind) (span : Span) → IsUtf8 text → IsFaultOf text of span → IsRange text span
+  no_toml : (of : TomlKind) (span : Span) → IsUtf8 text → IsFaultOf text of span → IsSpan text span
       → AreFaults text (fault_at (kind_of of) [] span ∷ [])
   of_tree : (v : Value) → IsUtf8 text → IsTreeOf text v → AreFaults text (faults_of_tree v)
 
--- The faults of a text, of which there are some, in ascending order, each once.
+-- A text has these faults, at least one, in ascending order, each once.
 pub record ListsFaults (text : List ℕ) (faults : List ConfigFault) : Type 0 where
   pub are : AreFaults text faults
   pub some : faults ≢ []
   pub ascending : IsStrictlySortedBy fault_cmp faults
 
--- what is read from the table `bans`; without it all its defaults hold
+-- what is read from the table `bans`; without it, all its defaults
 abbrev pub ReadsBans : Option Value → Config → Type 0
 ReadsBans None config = ReadsConfig [] config
 ReadsBans (Some v) config = ReadsTable ReadsConfig v config
 
--- what is read from the table `licenses`: nothing exactly where it is not written
+-- what is read from the table `licenses`: nothing exactly where there is no such table
 abbrev pub ReadsLicensing : Option Value → Option licenses.Config → Type 0
 ReadsLicensing = ReadsIfThere (ReadsTable ReadsLicenses)
 
--- The text is TOML, its tree has no fault, and its tables `bans` and `licenses` say this.
+-- A text is TOML, its tree has no fault, and this is read from its tables `bans` and `licenses`.
 pub record Says (text : List ℕ) (config : Config) (licensing : Option licenses.Config) : Type 0 where
   pub utf8 : IsUtf8 text
   pub tree : Value
@@ -82,7 +82,7 @@ pub record Says (text : List ℕ) (config : Config) (licensing : Option licenses
   pub reads : ReadsBans (below_name bans_name tree) config
   pub reads_licenses : ReadsLicensing (below_name licenses_name tree) licensing
 
--- The policy of a text that is the last file: it is TOML without faults and without clashes, and this is what it says.
+-- This is the policy of a text that is the last file: the text is TOML without faults and without clashes.
 pub record IsPolicyOf (text : List ℕ) (file : ℕ) (policy : Policy) : Type 0 where
   pub config : Config
   pub says : Says text config policy.licenses
@@ -90,26 +90,26 @@ pub record IsPolicyOf (text : List ℕ) (file : ℕ) (policy : Policy) : Type 0 
   pub valid : IsValidOf config file (file + 1) policy.bans
   pub warnings : policy.warnings ≡ warnings_of file config
 
--- What clashes in a text without faults. All labels lie in the text.
-pub record TellsClashes (text : List ℕ) (file : ℕ) (told : List Diagnostic) : Type 0 where
+-- These diagnostics report the clashes of a text without faults. All labels lie in the text.
+pub record ReportsClashes (text : List ℕ) (file : ℕ) (reported : List Diagnostic) : Type 0 where
   pub config : Config
   pub licensing : Option licenses.Config
   pub says : Says text config licensing
-  pub some : told ≢ []
-  pub are : AreClashes text config file told
-  pub located : All (IsRange text) (told_ranges told)
+  pub some : reported ≢ []
+  pub are : AreClashes text config file reported
+  pub located : All (IsSpan text) (reported_spans reported)
 
--- Why a text has no policy. Want of memory says nothing of the text.
+-- A text is no policy for this reason. An error for lack of memory says nothing of the text.
 abbrev pub IsNoPolicy : List ℕ → ℕ → PolicyError → Type 0
 IsNoPolicy text file (error.Config faults) = ListsFaults text faults
-IsNoPolicy text file (error.Invalid told) = TellsClashes text file told
+IsNoPolicy text file (error.Invalid reported) = ReportsClashes text file reported
 IsNoPolicy text file error.Memory = ⊤
 
--- the policy's text is a file of this name
+-- the file of a policy's text
 abbrev pub policy_file : List ℕ → File
 policy_file text = record { path = codes "deny.toml"; source = text }
 
--- A text that is UTF-8 is put behind the other files.
+-- A text is added behind the other files where it is UTF-8.
 pub record Keeps (text : List ℕ) (old new : List File) : Type 0 where
   pub utf8 : IsUtf8 text → new ≡ old ++ policy_file text ∷ []
   pub other : ¬ IsUtf8 text → new ≡ old
@@ -119,7 +119,7 @@ abbrev pub globs_files : Option ℕ → List File
 globs_files None = []
 globs_files (Some number) = builtin_file ∷ []
 
--- the text's file, and behind it that of the built-in globs, where there are some
+-- the file of the policy's text, and behind it that of the built-in globs, if any
 abbrev pub policy_files : List ℕ → ValidConfig → List File
 policy_files text cfg = policy_file text ∷ globs_files (builtin_file_of cfg)
 
@@ -130,12 +130,12 @@ pub record AddsFiles (text : List ℕ) (old new : List File) : Type 0 where
   pub says : Says text config licensing
   pub is : new ≡ old ++ files_asked config
 
--- both: the text is put behind the other files, and then what it asks for
+-- the text is added behind the other files, and behind it the file that it asks for
 abbrev pub KeepsAll : List ℕ → List File → List File → Type 0
 KeepsAll text old new = AddsFiles text (old ++ policy_file text ∷ []) new
 
--- also where the text then has no policy; where memory is wanting, the files may be as they were
+-- the files after an error: when out of memory, they may also be unchanged
 abbrev pub KeepsOnError : PolicyError → List ℕ → List File → List File → Type 0
 KeepsOnError (error.Config faults) text old new = Keeps text old new
-KeepsOnError (error.Invalid told) text old new = KeepsAll text old new
+KeepsOnError (error.Invalid reported) text old new = KeepsAll text old new
 KeepsOnError error.Memory text old new = (new ≡ old) ⊎ (Keeps text old new ⊎ KeepsAll text old new)

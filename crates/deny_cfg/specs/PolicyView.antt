@@ -1,29 +1,29 @@
--- What the rules see of a configuration.
+-- A configuration as the rules see it.
 use Rattle.std.specs.Prelude.{ℕ, ◌+◌, List, [], ◌∷◌, map, IfSome, Option, None, Some, option_map, option_and_then}
 use Rattle.semver.specs.Identifiers.{parts_of}
-use Rattle.deny_build_cfg.specs.Build.{IsReadBuild}
-use Rattle.deny_build_cfg.specs.BuildingView.{building_view, globs_file}
-use Rattle.deny_build_model.specs.Building.{Building}
-use Rattle.deny_model.specs.Policy as model
-use Rattle.deny_model.specs.Policy.{Ban, Entry, FeatureEntry, Policy, Replacing, Root, Sharing, Words}
-use Rattle.deny_entries.specs.SpecView.{spec_view}
-use Rattle.deny_tables.specs.Highlight.{shows_lowest, shows_simplest}
-use Rattle.deny_tables.specs.declared.bans.cfg.std_replacements.StdReplacementConfig.{StdReplacementConfig}
-use Rattle.deny_tables.specs.declared.bans.cfg.tree_skip.TreeSkipExtended.{TreeSkipExtended}
-use Rattle.deny_tables.specs.declared.bans.cfg.workspace.WorkspaceDepsConfig.{WorkspaceDepsConfig}
+use Rattle.deny_cfg_build.specs.Build.{IsReadBuild}
+use Rattle.deny_cfg_build.specs.BuildingView.{building_view, globs_file}
+use Rattle.deny_spec.specs.Building.{Building}
+use Rattle.deny_spec.specs.Policy as model
+use Rattle.deny_spec.specs.Policy.{AllowEntry, Ban, Entry, FeatureEntry, Policy, Replacing, Root, Sharing, SpannedText}
+use Rattle.deny_cfg_entries.specs.SpecView.{spec_view}
+use Rattle.deny_cfg_tables.specs.Highlight.{shows_lowest, shows_simplest}
+use Rattle.deny_cfg_tables.specs.declared.bans.cfg.std_replacements.StdReplacementConfig.{StdReplacementConfig}
+use Rattle.deny_cfg_tables.specs.declared.bans.cfg.tree_skip.TreeSkipExtended.{TreeSkipExtended}
+use Rattle.deny_cfg_tables.specs.declared.bans.cfg.workspace.WorkspaceDepsConfig.{WorkspaceDepsConfig}
 use Rattle.deny_cfg.specs.declared.bans.cfg.valid.KrateBan.{KrateBan}
 use Rattle.deny_cfg.specs.declared.bans.cfg.valid.ValidConfig.{ValidConfig}
 use Rattle.deny_cfg.specs.declared.bans.cfg.valid.ValidKrateFeatures.{ValidKrateFeatures}
-use Rattle.deny_entries.specs.declared.reason.Reason.{Reason}
-use Rattle.deny_entries.specs.declared.scope.Scope.{Scope}
-use Rattle.deny_entries.specs.declared.scope.Scope.TheVariants as scope
-use Rattle.deny_entries.specs.declared.spec_or_extended.PackageSpecOrExtended.{PackageSpecOrExtended}
+use Rattle.deny_cfg_entries.specs.declared.reason.Reason.{Reason}
+use Rattle.deny_cfg_entries.specs.declared.scope.Scope.{Scope}
+use Rattle.deny_cfg_entries.specs.declared.scope.Scope.TheVariants as scope
+use Rattle.deny_cfg_entries.specs.declared.spec_or_extended.PackageSpecOrExtended.{PackageSpecOrExtended}
 
-abbrev pub words_or_none : Option (List Words) → List Words
+abbrev pub words_or_none : Option (List SpannedText) → List SpannedText
 words_or_none None = []
 words_or_none (Some words) = words
 
-abbrev pub reason_words : Reason → Words
+abbrev pub reason_words : Reason → SpannedText
 reason_words reason = reason.0
 
 abbrev pub ban_view : PackageSpecOrExtended KrateBan → Ban
@@ -33,6 +33,9 @@ ban_view e = record {
   reason = option_map reason_words (option_and_then (λ ban. ban.reason) e.inner);
   use_instead = option_and_then (λ ban. ban.use_instead) e.inner;
 }
+
+abbrev pub allow_view : PackageSpecOrExtended Reason → AllowEntry
+allow_view e = record { spec = spec_view e.spec; reason = option_map reason_words e.inner }
 
 abbrev pub entry_view : PackageSpecOrExtended Reason → Entry
 entry_view e = record { spec = spec_view e.spec; reason = option_map reason_words e.inner }
@@ -87,7 +90,7 @@ policy_view cfg = record {
   lowest = shows_lowest cfg.highlight;
   deny = map ban_view cfg.denied;
   deny_multiple = map spec_view cfg.denied_multiple_versions;
-  allow = map entry_view cfg.allowed;
+  allow = map allow_view cfg.allowed;
   allow_workspace = cfg.allow_workspace;
   skip = map entry_view cfg.skipped;
   skip_tree = roots_from 0 cfg.tree_skipped;
@@ -100,14 +103,14 @@ policy_view cfg = record {
   replacing = option_map replacing_view cfg.std_replacements;
 }
 
--- what it says of build scripts and of the files of packages; none where it does not speak of them
+-- how build scripts and the files of packages are checked; none where the configuration does not check them
 abbrev pub building_of : ValidConfig → Option Building
 building_of cfg = option_map building_view cfg.build
 
--- the file of the built-in globs, where there are some
+-- the number of the file of the built-in globs, where the configuration has some
 abbrev pub builtin_file_of : ValidConfig → Option ℕ
 builtin_file_of cfg = option_and_then globs_file cfg.build
 
--- the globs of the table `build` are those of its texts
+-- the globs of the table `build` are read from its texts
 abbrev pub AreGlobsRead : ValidConfig → Type 0
 AreGlobsRead cfg = IfSome cfg.build IsReadBuild

@@ -1,3 +1,3 @@
-//! What `[bans]` says.
+//! The table `[bans]`.
 
 pub mod cfg;

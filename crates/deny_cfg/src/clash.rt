@@ -1,6 +1,5 @@
-//! Entries of a policy that contradict each other, and what is wrong in its table `build`.
+//! Clashes between entries of a policy, and faults of its table `build`.
 ghost use Rattle.std.specs.Prelude.{◌≡◌, ◌==◌, Some, refl};
-ghost use Rattle.std.specs.Ordering.{nat_cmp};
 ghost use Rattle.std.specs.Cmp.{nat_cmp_total, on_total, on_per, on_equiv, nat_eq_equiv, partial_equiv_from_equiv};
 ghost use Rattle.std.specs.Cmp.{partial_order_from_own_ties, partial_order_from_total, unsigned_ties};
 ghost use Rattle.std.specs.FinMap.{IsAntisymmetric};
@@ -8,26 +7,26 @@ ghost use Rattle.deny_cfg.specs.Clashes.{build_clash, clash_cmp, kind_cmp, kind_
 ghost use Rattle.deny_cfg.specs.declared.clash.Clash.{Clash};
 
 use deny_base::Span;
-use deny_build_cfg::BuildFault;
+use deny_cfg_build::BuildFault;
 use std::cmp::Ordering;
 
-/// The range of a label that is not there.
+/// The span of a label that is not there.
 const NO_SPAN: Span = Span { start: 0, end: 0 };
 
-/// What contradicts what, or is wrong.
+/// The kind of a clash or fault.
 #[derive(Clone, Copy)]
 pub enum ClashKind {
-    /// An entry of `deny` names wrappers, and denies several versions alone.
+    /// An entry of `deny` has wrappers, and denies only several versions.
     WrappersOfMultiple,
-    /// A ban and an entry of `allow` are equal.
+    /// A ban and an entry of `allow` have equal specs.
     DenyAndAllow,
-    /// A ban and an entry of `skip` are equal.
+    /// A ban and an entry of `skip` have equal specs.
     DenyAndSkip,
-    /// An entry of `allow` and one of `skip` are equal.
+    /// An entry of `allow` and an entry of `skip` have equal specs.
     AllowAndSkip,
     /// An entry of `features` allows and denies a feature.
     FeatureTwice,
-    /// An extension of `script-extensions` has another character than ASCII letters and digits.
+    /// An extension of `script-extensions` has a character that is neither an ASCII letter nor a digit.
     Extension,
     /// An entry of `allow-globs` is no glob.
     Glob,
@@ -93,25 +92,25 @@ impl Ord for ClashKind {
     }
 }
 
-/// Two ranges of a policy that contradict each other, or one that is wrong. Clashes are ordered by kind, and then by
-/// the ranges of their labels.
+/// A clash between two places of a policy, or a fault at one place. Clashes are ordered by kind, and then by the spans
+/// of their labels.
 #[derive(Clone, Copy, PartialEq, Eq, PartialOrd, Ord)]
 pub struct Clash {
     pub kind: ClashKind,
-    /// The range of the first label.
+    /// The span of the first label.
     pub first: Span,
-    /// The range of the second label; 0..0 where there is none.
+    /// The span of the second label; 0..0 where there is none.
     pub second: Span,
-    /// The range of the third label of a `FeatureTwice`, else 0..0.
+    /// The span of the third label of a `FeatureTwice`, else 0..0.
     pub third: Span,
-    /// How many wrappers there are, of a `WrappersOfMultiple`; the byte for which a `Glob` is none; else 0.
+    /// The number of wrappers of a `WrappersOfMultiple`; the byte offset of the fault of a `Glob`; else 0.
     pub number: u64,
-    /// Whether an `Extension` is all ASCII, so that its second label is at a character; else false.
+    /// Whether all characters of an `Extension` are ASCII, so that its second label is at a character; else false.
     pub ascii: bool,
 }
 
 impl Clash {
-    /// A clash of two ranges.
+    /// A clash between two spans.
     pub fn of(kind: ClashKind, first: Span, second: Span) -> Clash
         ensures { result ≡ two_spans kind first second }
     {
@@ -125,26 +124,26 @@ impl Clash {
         }
     }
 
-    /// What is wrong in a table `build`.
+    /// The clash for a fault of a table `build`.
     pub fn of_build(fault: BuildFault) -> Clash
         ensures { result ≡ build_clash fault }
     {
         match fault {
-            BuildFault::NonAscii(range) => Clash::of(ClashKind::Extension, range, NO_SPAN),
-            BuildFault::NoLetter(range, byte) => Clash {
+            BuildFault::NonAscii(span) => Clash::of(ClashKind::Extension, span, NO_SPAN),
+            BuildFault::NoLetter(span, byte) => Clash {
                 ascii: true,
-                ..Clash::of(ClashKind::Extension, range, byte)
+                ..Clash::of(ClashKind::Extension, span, byte)
             },
-            BuildFault::Glob(range, byte) => Clash {
+            BuildFault::Glob(span, byte) => Clash {
                 number: byte,
-                ..Clash::of(ClashKind::Glob, range, NO_SPAN)
+                ..Clash::of(ClashKind::Glob, span, NO_SPAN)
             },
-            BuildFault::Absolute(range) => Clash::of(ClashKind::Path, range, NO_SPAN),
+            BuildFault::Absolute(span) => Clash::of(ClashKind::Path, span, NO_SPAN),
         }
     }
 }
 
-/// The order of clashes is that of their kinds and ranges, and only equal ones tie.
+/// Clashes are ordered by their kinds and spans, and only equal clashes tie.
 pub fn clash_order()
     ensures fields { (a b : Clash) → ⟦<Clash as Ord>⟧.cmp a b ≡ clash_cmp a b }
     ensures equal { IsAntisymmetric clash_cmp }

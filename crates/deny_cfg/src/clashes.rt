@@ -1,8 +1,8 @@
-//! Which entries of a policy clash, and what is wrong in its table `build`.
+//! The clashes between entries of a policy, and the faults of its table `build`.
 ghost use Rattle.std.specs.Prelude.{◌≡◌, ◌++◌, [], IfOk, None, OnOk, Some};
 ghost use Rattle.std.specs.Prelude.{if◌then◌else◌, filter, filter_map, map, option_map};
 ghost use Rattle.std.specs.List.{cons_option, flat_map};
-ghost use Rattle.deny_lists.specs.Ascending.{Adds, Lists};
+ghost use Rattle.deny_base_lists.specs.Ascending.{Adds, Lists};
 ghost use Rattle.deny_cfg.specs.Clashes.{IsBuildClash, IsClash, build_clash, clash_cmp};
 ghost use Rattle.deny_cfg.specs.Clashes.{clash_with, clashes_in, feature_clashes};
 ghost use Rattle.deny_cfg.specs.Clashes.{is_ban, specs_of, two_spans, wrappers_clash, wrappers_clash_by};
@@ -12,15 +12,15 @@ ghost use Rattle.deny_cfg.specs.private.FirstSpans.{first_span, plain_wording, s
 use crate::clash::{Clash, ClashKind, clash_order};
 use crate::first_spans::{FirstSpans, Wording};
 use deny_base::{Span, Spanned};
-use deny_build_cfg::{BuildFault, wrong_in};
-use deny_entries::PackageSpec;
-use deny_lists::{List, NoMemory, Text, put_in_order};
-use deny_tables::bans::cfg::{
-    BuildConfig, Config, CrateBan, CrateBanExtended, CrateFeatures, SpecAndReason,
+use deny_base_lists::{List, NoMemory, Text, put_in_order};
+use deny_cfg_build::{BuildFault, wrong_in};
+use deny_cfg_entries::{PackageSpec, PackageSpecOrExtended};
+use deny_cfg_tables::bans::cfg::{
+    BuildConfig, Config, CrateAllow, CrateBan, CrateBanExtended, CrateFeatures, CrateSkip,
 };
 use std::alloc::Global;
 
-/// Whether an entry of `deny` bans, and does not deny several versions alone.
+/// Whether an entry of `deny` bans crates, and does not deny only several versions.
 #[tactic(auto, unfolding(crate::specs::Clashes::is_ban))]
 pub fn is_ban(entry: &CrateBan) -> bool
     ensures { result ≡ is_ban entry.now }
@@ -34,7 +34,7 @@ pub fn is_ban(entry: &CrateBan) -> bool
     }
 }
 
-/// The clash of wrappers with the flag that their entry denies several versions alone.
+/// The clash of wrappers with the flag of their entry, which then denies only several versions.
 fn flag_clash(flag: &Spanned<bool>, wrappers: &Spanned<List<Spanned<Text>>>) -> Option<Clash>
     ensures { result ≡ wrappers_clash_by (Some flag.now) (Some wrappers.now) }
 {
@@ -60,7 +60,7 @@ fn extended_clash(said: &CrateBanExtended) -> Option<Clash>
     }
 }
 
-/// The clash of an entry that denies several versions alone, and yet names wrappers.
+/// The clash of an entry that denies only several versions and has wrappers too.
 #[tactic(auto, unfolding(crate::specs::Clashes::wrappers_clash))]
 fn wrappers_clash(entry: &CrateBan) -> Option<Clash>
     ensures { result ≡ wrappers_clash entry.now }
@@ -71,7 +71,7 @@ fn wrappers_clash(entry: &CrateBan) -> Option<Clash>
     }
 }
 
-/// Puts a clash behind the others, if there is one.
+/// Adds a clash behind the others, if there is one.
 fn put_clash(clash: Option<Clash>, clashes: &mut List<Clash>) -> Result<(), NoMemory>
     ensures { OnOk result (clashes.new ≡ clashes.old ++ cons_option clash []) }
 {
@@ -105,7 +105,7 @@ fn clash_with(
     }
 }
 
-/// The clash of an entry of `deny`, if it bans, with the first equal one of others.
+/// The clash of an entry of `deny`, if it bans crates, with the first equal one of others.
 fn ban_clash(
     kind: ClashKind,
     others: &FirstSpans,
@@ -122,12 +122,12 @@ fn ban_clash(
     }
 }
 
-/// The clashes of bans with other entries.
-fn put_ban_clashes(
+/// Adds the clashes of bans with other entries.
+fn put_ban_clashes<T>(
     alloc: Global,
     kind: ClashKind,
     deny: &[CrateBan],
-    others: &[SpecAndReason],
+    others: &[PackageSpecOrExtended<T>],
     clashes: &mut List<Clash>,
 ) -> Result<(), NoMemory>
     ensures { OnOk result (clashes.new
@@ -140,11 +140,11 @@ fn put_ban_clashes(
     Ok(())
 }
 
-/// The clashes of entries of `allow` with those of `skip`.
+/// Adds the clashes of entries of `allow` with those of `skip`.
 fn put_allow_clashes(
     alloc: Global,
-    allow: &[SpecAndReason],
-    skip: &[SpecAndReason],
+    allow: &[CrateAllow],
+    skip: &[CrateSkip],
     clashes: &mut List<Clash>,
 ) -> Result<(), NoMemory>
     ensures { OnOk result (clashes.new
@@ -160,7 +160,7 @@ fn put_allow_clashes(
     Ok(())
 }
 
-/// The clash of an allowed feature with the first equal denied one.
+/// The clash of an allowed feature with the first equal denied feature.
 fn feature_clash(
     name: Span,
     denied: &FirstSpans,
@@ -178,7 +178,7 @@ fn feature_clash(
     }
 }
 
-/// The clashes of the features of an entry.
+/// Adds the clashes between the features of an entry.
 #[tactic(auto, unfolding(crate::specs::Clashes::feature_clashes))]
 fn put_feature_clashes(
     alloc: Global,
@@ -210,7 +210,7 @@ fn put_features_clashes(
     Ok(())
 }
 
-/// What clashes in a configuration, one kind after another.
+/// The clashes of a configuration, one kind after another.
 #[tactic(auto, unfolding(crate::specs::Clashes::clashes_in, crate::specs::Clashes::banned_specs))]
 fn clashes_in(alloc: Global, config: &Config) -> Result<List<Clash>, NoMemory>
     ensures { IfOk result (λ clashes. clashes ≡ clashes_in config.now) }
@@ -227,7 +227,7 @@ fn clashes_in(alloc: Global, config: &Config) -> Result<List<Clash>, NoMemory>
     Ok(clashes)
 }
 
-/// Puts what is wrong behind the others.
+/// Adds the faults of a table `build` behind the other clashes.
 fn put_faults(faults: &[BuildFault], clashes: &mut List<Clash>) -> Result<(), NoMemory>
     ensures { OnOk result (clashes.new ≡ clashes.old ++ map build_clash faults.now) }
 {
@@ -237,7 +237,7 @@ fn put_faults(faults: &[BuildFault], clashes: &mut List<Clash>) -> Result<(), No
     Ok(())
 }
 
-/// Adds what is wrong in the table `build` of the text, if there is one.
+/// Adds the faults of the table `build` that is written in the text, if there is one.
 fn add_build_clashes(
     alloc: Global,
     source: &str,
@@ -252,7 +252,7 @@ fn add_build_clashes(
     }
 }
 
-/// What clashes in a configuration that is read from the text, in order, each once.
+/// The clashes of a configuration that is read from the text, in order, each once.
 pub fn ordered_clashes(
     alloc: Global,
     source: &str,

@@ -1,17 +1,16 @@
-//! Spans by what stands there, of equal things the first.
+//! The first spans of specs and words: of equal ones, that of the first.
 ghost use Rattle.std.specs.Prelude.{◌≡◌, [], IfOk, OnOk, is_some, map, not};
-ghost use Rattle.deny_lists.specs.First.{FindsFirst, GainsEntry};
+ghost use Rattle.deny_base_lists.specs.First.{FindsFirst, GainsEntry};
 ghost use Rattle.deny_cfg.specs.private.FirstSpans.{entry_span, first_span, plain_wording};
 ghost use Rattle.deny_cfg.specs.private.FirstSpans.{same_wording, spec_wording, word_span};
 
 use deny_base::{Span, Spanned};
-use deny_entries::PackageSpec;
-use deny_lists::{NoMemory, Text};
-use deny_tables::bans::cfg::SpecAndReason;
+use deny_base_lists::{NoMemory, Text};
+use deny_cfg_entries::{PackageSpec, PackageSpecOrExtended};
 use std::alloc::Global;
 use std::collections::BTreeMap;
 
-/// What a spec says, or a word, by which it is compared with others.
+/// A spec or a word without its span, by which it is compared with others.
 #[derive(PartialEq, Eq, PartialOrd, Ord, Drop)]
 pub struct Wording {
     /// The name of a spec, or the word.
@@ -42,7 +41,7 @@ impl Wording {
     }
 }
 
-/// The span of each wording, of equal ones that of the first.
+/// The span of each wording; of equal wordings that of the first.
 #[derive(Drop)]
 pub struct FirstSpans {
     spans: BTreeMap<Wording, Span>,
@@ -63,7 +62,7 @@ impl FirstSpans {
         !self.spans.contains_key(wording)
     }
 
-    /// Puts a span behind the others.
+    /// Adds a wording with its span behind the others.
     fn add(&mut self, wording: Wording, span: Span) -> Result<(), NoMemory>
         ensures { OnOk result (GainsEntry same_wording wording span (first_span self.old) (first_span self.new)) }
     {
@@ -73,7 +72,7 @@ impl FirstSpans {
         Ok(())
     }
 
-    /// The first span of what says the same.
+    /// The span of the first equal wording.
     pub fn find(&self, wording: &Wording) -> Option<Span>
         ensures { result ≡ first_span self.now wording.now }
     {
@@ -81,7 +80,10 @@ impl FirstSpans {
     }
 
     /// The spans of the specs of entries.
-    pub fn of_specs(alloc: Global, entries: &[SpecAndReason]) -> Result<FirstSpans, NoMemory>
+    pub fn of_specs<T>(
+        alloc: Global,
+        entries: &[PackageSpecOrExtended<T>],
+    ) -> Result<FirstSpans, NoMemory>
         ensures { IfOk result (λ found. FindsFirst same_wording (map entry_span entries.now) (first_span found)) }
     {
         let mut found = FirstSpans::new(alloc);

@@ -1,16 +1,16 @@
-//! A text says one thing as a policy.
+//! A text writes at most one policy.
 ghost use Rattle.std.specs.Prelude.{◌≡◌, ◌⊎◌, ℕ, List, [], ◌∷◌};
 ghost use Rattle.deny_base.specs.declared.finding.Diagnostic.{Diagnostic};
 ghost use Rattle.deny_base.specs.declared.span.Span.{Span};
 ghost use Rattle.deny_toml.specs.Faults.{fault_at};
-ghost use Rattle.deny_toml.specs.declared.error.ConfigFault.{ConfigFault};
-ghost use Rattle.deny_toml.specs.declared.error.FaultKind.TheVariants.{Grammar};
+ghost use Rattle.deny_toml.specs.error.ConfigFault.{ConfigFault};
+ghost use Rattle.deny_toml.specs.error.FaultKind.TheVariants.{Grammar};
 ghost use Rattle.deny_cfg.specs.LicensingView.{licensing_of};
-ghost use Rattle.deny_cfg.specs.PolicyText.{IsPolicyOf, ListsFaults, TellsClashes};
+ghost use Rattle.deny_cfg.specs.PolicyText.{IsPolicyOf, ListsFaults, ReportsClashes};
 ghost use Rattle.deny_cfg.specs.PolicyView.{building_of, builtin_file_of, policy_view};
 ghost use Rattle.deny_cfg.specs.declared.policy.Policy.{Policy};
 
-/// Two policies of one text are one in all that the rules look at.
+/// Two policies that are read from one text are the same in all that the rules see.
 pub fn one_policy()
     ensures bans { (text : List ℕ) → (file : ℕ) → (a b : Policy) → IsPolicyOf text file a → IsPolicyOf text file b
         → policy_view a.bans ≡ policy_view b.bans }
@@ -24,19 +24,19 @@ pub fn one_policy()
         → licensing_of a.licenses ≡ licensing_of b.licenses }
 {}
 
-/// Why a text has no policy is one: its faults, or else what clashes in it. Of a text outside the
-/// grammar the range of the fault is free. A text with faults or clashes has no policy.
+/// The reason why a text is no policy is unique: its faults, or else its clashes. Only the span of the fault of
+/// a text outside the grammar is free. A text with faults or clashes has no policy.
 pub fn one_refusal()
     ensures faults { (text : List ℕ) → (xs ys : List ConfigFault) → ListsFaults text xs → ListsFaults text ys
         → (xs ≡ ys)
         ⊎ (((span : Span) × (xs ≡ fault_at Grammar [] span ∷ []))
         × ((span : Span) × (ys ≡ fault_at Grammar [] span ∷ []))) }
-    ensures clashes { (text : List ℕ) → (file : ℕ) → (xs ys : List Diagnostic) → TellsClashes text file xs
-        → TellsClashes text file ys → xs ≡ ys }
-    ensures faults_alone { (text : List ℕ) → (file : ℕ) → (faults : List ConfigFault) → (told : List Diagnostic)
-        → ListsFaults text faults → TellsClashes text file told → ⊥ }
+    ensures clashes { (text : List ℕ) → (file : ℕ) → (xs ys : List Diagnostic) → ReportsClashes text file xs
+        → ReportsClashes text file ys → xs ≡ ys }
+    ensures faults_alone { (text : List ℕ) → (file : ℕ) → (faults : List ConfigFault) → (reported : List Diagnostic)
+        → ListsFaults text faults → ReportsClashes text file reported → ⊥ }
     ensures no_policy_with_faults { (text : List ℕ) → (file : ℕ) → (faults : List ConfigFault) → (policy : Policy)
         → ListsFaults text faults → IsPolicyOf text file policy → ⊥ }
-    ensures no_policy_with_clashes { (text : List ℕ) → (here there : ℕ) → (told : List Diagnostic) → (policy : Policy)
-        → TellsClashes text here told → IsPolicyOf text there policy → ⊥ }
+    ensures no_policy_with_clashes { (text : List ℕ) → (here there : ℕ) → (reported : List Diagnostic)
+        → (policy : Policy) → ReportsClashes text here reported → IsPolicyOf text there policy → ⊥ }
 {}

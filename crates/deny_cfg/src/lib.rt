@@ -1,9 +1,9 @@
-//! A policy: its text, and the configuration without clashes that it writes.
+//! A policy: its text, and the valid configuration that it writes.
 #![tactic(auto)]
 
 pub mod bans;
 mod clash;
-mod clash_told;
+mod clash_diag;
 mod clashes;
 mod deprecated;
 mod first_spans;
@@ -13,10 +13,10 @@ mod matching;
 mod policy;
 mod validate;
 
-pub use deny_entries::{
+pub use deny_cfg_entries::{
     PackageSpec, PackageSpecOrExtended, Reason, Scope, equal_specs_match_alike, parse_semver,
 };
-pub use deny_spec_index::SpecIndex;
+pub use deny_cfg_index::SpecIndex;
 pub use laws::{one_policy, one_refusal};
 pub use matching::match_krate;
 pub use policy::{Policy, PolicyError, read_policy};

@@ -1,6 +1,6 @@
-//! What `[licenses]` says.
+//! The table `[licenses]`.
 
-pub use deny_tables::licenses::{Config, Exception};
+pub use deny_cfg_tables::licenses::{Config, Exception};
 
-/// What `[licenses]` says once it is known to hold no clash: nothing in it can clash.
+/// The table `[licenses]` as the rules take it: as it is written, since nothing in it can clash.
 pub type ValidConfig = Config;

@@ -1,18 +1,18 @@
-//! Which crates a spec speaks of.
+//! Whether a spec matches a crate.
 ghost use Rattle.std.specs.Prelude.{◌≡◌, option_map};
 ghost use Rattle.semver.specs.Identifiers.{parts_of};
-ghost use Rattle.deny_model.specs.Match.{meets, speaks_of};
-ghost use Rattle.deny_entries.specs.Requirement.{held_in};
-ghost use Rattle.deny_entries.specs.SpecView.{spec_view};
+ghost use Rattle.deny_spec.specs.Match.{meets, spec_matches};
+ghost use Rattle.deny_cfg_entries.specs.Requirement.{held_in};
+ghost use Rattle.deny_cfg_entries.specs.SpecView.{spec_view};
 
-use deny_entries::PackageSpec;
+use deny_cfg_entries::PackageSpec;
 use deny_krates::Krate;
 use semver::{Version, VersionReq};
 
-/// Whether the spec speaks of the crate: the names are equal, and the crate's version meets the
+/// Whether the spec matches the crate: the names are equal, and the crate's version meets the
 /// requirement, if there is one.
 pub fn match_krate(krate: &Krate, spec: &PackageSpec) -> bool
-    ensures { result ≡ speaks_of (spec_view spec.now) krate.now.name (parts_of krate.now.version) }
+    ensures { result ≡ spec_matches (spec_view spec.now) krate.now.name (parts_of krate.now.version) }
 {
     spec.name.value == krate.name && is_met(&spec.version_req, &krate.version)
 }

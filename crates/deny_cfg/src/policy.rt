@@ -1,19 +1,19 @@
-//! The text of a policy.
+//! Policies read from texts.
 ghost use Rattle.std.specs.Prelude.{◌≡◌, ℕ, ◌+◌, ◌++◌, ◌<◌, ◌^◌, ◌∷◌, [], All, IfOk, IfErr, IfSome, None};
 ghost use Rattle.std.specs.Prelude.{OnOk, length, take};
 ghost use Rattle.deny_toml.specs.Apart.{AreApart};
 ghost use Rattle.deny_toml.specs.Calls.{below_name, value_at, without};
 ghost use Rattle.deny_toml.specs.Faults.{Reports, fault_at, in_order};
 ghost use Rattle.deny_toml.specs.Parser.{IsTreeOf};
-ghost use Rattle.deny_toml.specs.Ranges.{IsRange, StandsIn};
+ghost use Rattle.deny_toml.specs.Spans.{IsSpan, OccursIn};
 ghost use Rattle.deny_toml.specs.TableHelper.{optional_faults};
-ghost use Rattle.deny_tables.specs.Config.{faults_of_config};
-ghost use Rattle.deny_tables.specs.Licenses.{faults_of_licenses};
+ghost use Rattle.deny_cfg_tables.specs.Config.{faults_of_config};
+ghost use Rattle.deny_cfg_tables.specs.Licenses.{faults_of_licenses};
 ghost use Rattle.deny_cfg.specs.Deprecated.{warnings_of};
-ghost use Rattle.deny_cfg.specs.LabelRanges.{AreLabels, licence_ranges};
-ghost use Rattle.deny_cfg.specs.private.LabelRanges.{config_labels};
-ghost use Rattle.deny_cfg.specs.LabelRanges.{older_range, word_labels};
-ghost use Rattle.deny_cfg.specs.private.LabelRanges.{list_ranges};
+ghost use Rattle.deny_cfg.specs.LabelSpans.{AreLabels, licence_spans};
+ghost use Rattle.deny_cfg.specs.private.LabelSpans.{config_labels};
+ghost use Rattle.deny_cfg.specs.LabelSpans.{older_span, word_labels};
+ghost use Rattle.deny_cfg.specs.private.LabelSpans.{list_spans};
 ghost use Rattle.deny_cfg.specs.Lawful.{IsLawful, IsLawfulLicensing};
 ghost use Rattle.deny_cfg.specs.PolicyText.{IsNoPolicy, IsPolicyOf, KeepsOnError, ListsFaults};
 ghost use Rattle.deny_cfg.specs.private.PolicyText.{AddsOnError, IsConfig};
@@ -26,9 +26,9 @@ use crate::bans::cfg::ValidConfig;
 use crate::licenses;
 use crate::validate::{UnvalidatedConfig, ValidationContext};
 use deny_base::{Diagnostic, FileId, Files, Span};
-use deny_build_cfg::older_key_by;
-use deny_lists::{List, NoMemory, Text};
-use deny_tables::bans::cfg::Config;
+use deny_base_lists::{List, NoMemory, Text};
+use deny_cfg_build::older_key_by;
+use deny_cfg_tables::bans::cfg::Config;
 use deny_toml::{
     ConfigFault, DeserError, FaultKind, TableHelper, TomlError, TomlKind, Value, parse,
     put_faults_in_order,
@@ -36,27 +36,27 @@ use deny_toml::{
 use std::alloc::Global;
 use thiserror::Error;
 
-/// What a policy says.
+/// A policy that was read from a text.
 #[derive(Drop)]
 pub struct Policy {
-    /// The table `bans`; its defaults where the text has none.
+    /// The table `bans`, with its defaults where the text has no such table.
     pub bans: ValidConfig,
-    /// The table `licenses`; none exactly where the text does not write it.
+    /// The table `licenses`; None exactly where the text has no such table.
     pub licenses: Option<licenses::ValidConfig>,
     /// Warnings about the policy itself: that `allow-build-scripts` stands for the table `build`.
     pub warnings: List<Diagnostic>,
 }
 
-/// Why a text has no policy.
+/// Why a text is no policy.
 #[derive(Debug, Drop, Error)]
 pub enum PolicyError {
     /// All faults of the text, in ascending order of span, kind and key.
     #[error("the policy has faults")]
     Config(List<ConfigFault>),
-    /// What clashes in it, by kind and then by the ranges of the labels.
+    /// The clashes of the text, by kind and then by the spans of the labels.
     #[error("entries of the policy contradict each other")]
     Invalid(List<Diagnostic>),
-    /// The memory did not suffice.
+    /// Out of memory.
     #[error("the memory did not suffice")]
     Memory,
 }
@@ -73,7 +73,7 @@ impl From<NoMemory> for PolicyError {
 }
 
 impl PolicyError {
-    /// A text with one fault, which is none of its values.
+    /// The error of a text with a single fault, which is not at a key.
     fn of_text(alloc: Global, kind: FaultKind, span: Span) -> PolicyError
         ensures { IsConfig (λ faults. faults ≡ fault_at kind [] span ∷ []) result }
     {
@@ -90,7 +90,7 @@ impl PolicyError {
 fn tree_of<'t>(alloc: Global, text: &'t str) -> Result<Value<'t>, PolicyError>
     requires small { length text.now < 2 ^ 28 }
     ensures tree { IfOk result (IsTreeOf text.now) }
-    ensures stands { IfOk result (StandsIn text.now) }
+    ensures holds { IfOk result (OccursIn text.now) }
     ensures apart { IfOk result AreApart }
     ensures faults { IfErr result (IsConfig (ListsFaults text.now)) }
 {
@@ -114,17 +114,17 @@ fn fault_kind(kind: TomlKind) -> FaultKind
     }
 }
 
-/// What the tables of a policy say, before it is known whether that clashes.
+/// The tables of a policy, whose entries may still clash.
 #[derive(Drop)]
 struct Tables {
-    /// The table `bans`; its defaults where the text has none.
+    /// The table `bans`, with its defaults where the text has no such table.
     bans: Config,
     /// The table `licenses`, if the text has one.
     licenses: Option<licenses::Config>,
 }
 
 impl Tables {
-    /// What holds where a policy has neither table.
+    /// The tables of a policy that has neither.
     fn none(alloc: Global) -> Tables
         ensures bans { ReadsBans None result.bans }
         ensures licenses { result.licenses ≡ None }
@@ -136,7 +136,7 @@ impl Tables {
     }
 }
 
-/// Reads the tables of a tree, whose other keys pass unread.
+/// Reads the tables of a tree; other keys of the root are not read.
 fn read_tables(alloc: Global, tree: &mut Value<'_>) -> Result<Tables, DeserError>
     ensures faultless { IfOk result (λ tables. faults_of_tree tree.old ≡ []) }
     ensures bans { IfOk result (λ tables. ReadsBans (below_name bans_name tree.old) tables.bans) }
@@ -151,7 +151,7 @@ fn read_tables(alloc: Global, tree: &mut Value<'_>) -> Result<Tables, DeserError
     tables_or_faults(tables, root.faults)
 }
 
-/// What the tables of a root say, whose faults it keeps.
+/// Reads the tables in a root. The helper keeps their faults.
 fn tables_in_root(alloc: Global, root: &mut TableHelper<'_>) -> Result<Tables, NoMemory>
     ensures bans { IfOk result (λ tables.
         optional_faults faults_of_config bans_name (value_at bans_name root.old.entries) ≡ []
@@ -168,7 +168,8 @@ fn tables_in_root(alloc: Global, root: &mut TableHelper<'_>) -> Result<Tables, N
     Ok(Tables { bans, licenses })
 }
 
-/// The table `bans` of a root, which keeps its faults; its defaults where the root has none, or has faults.
+/// Reads the table `bans` in a root, with its defaults where the root has no such table, or a table with faults. The
+/// helper keeps the faults.
 fn bans_in(alloc: Global, root: &mut TableHelper<'_>) -> Result<Config, NoMemory>
     ensures reads { IfOk result (λ bans.
         optional_faults faults_of_config bans_name (value_at bans_name root.old.entries) ≡ []
@@ -182,7 +183,7 @@ fn bans_in(alloc: Global, root: &mut TableHelper<'_>) -> Result<Config, NoMemory
     Ok(bans.unwrap_or(Config::new(alloc)))
 }
 
-/// Tables, where these are no faults; else the faults, put in order.
+/// The tables, where there are no faults; else the faults in order.
 fn tables_or_faults(tables: Tables, faults: List<ConfigFault>) -> Result<Tables, DeserError>
     ensures faultless { IfOk result (λ given. in_order faults ≡ []) }
     ensures same { IfOk result (λ given. given ≡ tables) }
@@ -192,8 +193,8 @@ fn tables_or_faults(tables: Tables, faults: List<ConfigFault>) -> Result<Tables,
     Ok(tables)
 }
 
-/// Faults are an error, put in order, where there are some.
-#[tactic(auto, using(deny_toml::proofs::FaultLaws::in_order_ascends))]
+/// An error with the faults in order, where there are some.
+#[tactic(auto, using(deny_toml_tree::proofs::FaultLaws::in_order_ascends))]
 fn faultless(faults: List<ConfigFault>) -> Result<(), DeserError>
     ensures none { OnOk result (in_order faults ≡ []) }
     ensures some { IfErr result (Reports (in_order faults)) }
@@ -207,13 +208,13 @@ fn faultless(faults: List<ConfigFault>) -> Result<(), DeserError>
     }
 }
 
-/// What a text says, before it is known whether that clashes.
+/// The tables of a text, whose entries may still clash.
 fn tables_of(alloc: Global, text: &str) -> Result<Tables, PolicyError>
     requires small { length text.now < 2 ^ 28 }
     ensures says { IfOk result (λ tables. Says text.now tables.bans tables.licenses) }
     ensures labels { IfOk result (λ tables. AreLabels text.now (config_labels tables.bans)) }
-    ensures lists { IfOk result (λ tables. All (IsRange text.now) (list_ranges tables.bans)) }
-    ensures licence_labels { IfOk result (λ tables. AreLabels text.now (licence_ranges tables.licenses)) }
+    ensures lists { IfOk result (λ tables. All (IsSpan text.now) (list_spans tables.bans)) }
+    ensures licence_labels { IfOk result (λ tables. AreLabels text.now (licence_spans tables.licenses)) }
     ensures faults { IfErr result (IsConfig (ListsFaults text.now)) }
 {
     let mut tree = tree_of(alloc, text)?;
@@ -224,7 +225,7 @@ fn tables_of(alloc: Global, text: &str) -> Result<Tables, PolicyError>
     }
 }
 
-/// How many warnings are told of a configuration.
+/// How many warnings a configuration has.
 fn warnings_len(bans: &Config) -> usize
     ensures { (file : ℕ) → result ≡ length (warnings_of file bans.now) }
 {
@@ -234,16 +235,16 @@ fn warnings_len(bans: &Config) -> usize
     }
 }
 
-/// The first of what was told.
-fn first_told(told: List<Diagnostic>, count: usize) -> List<Diagnostic>
-    ensures { result ≡ take count told }
+/// The first diagnostics of a list.
+fn first_reported(reported: List<Diagnostic>, count: usize) -> List<Diagnostic>
+    ensures { result ≡ take count reported }
 {
-    let mut told = told;
-    told.vec.truncate(count);
-    told
+    let mut reported = reported;
+    reported.vec.truncate(count);
+    reported
 }
 
-/// The policy of a text that stands as the file of that number, which is the last one.
+/// The policy of a text that is the last file and has this number.
 fn policy_of(
     alloc: Global,
     text: &str,
@@ -252,13 +253,13 @@ fn policy_of(
 ) -> Result<Policy, PolicyError>
     requires small { length text.now < 2 ^ 28 }
     requires few { length files.old < 2 ^ 31 }
-    requires stands { text.now ≡ source_in files.old file }
+    requires source { text.now ≡ source_in files.old file }
     requires last { length files.old ≡ file + 1 }
     ensures policy { IfOk result (IsPolicyOf text.now file) }
     ensures labels { IfOk result (λ policy. AreLabels text.now (word_labels policy.bans)) }
-    ensures older_key { IfOk result (λ policy. All (IsRange text.now) (older_range policy.bans)) }
+    ensures older_key { IfOk result (λ policy. All (IsSpan text.now) (older_span policy.bans)) }
     ensures lawful { IfOk result (λ policy. IsLawful policy.bans) }
-    ensures licence_labels { IfOk result (λ policy. AreLabels text.now (licence_ranges policy.licenses)) }
+    ensures licence_labels { IfOk result (λ policy. AreLabels text.now (licence_spans policy.licenses)) }
     ensures lawful_licences { IfOk result (λ policy. IfSome policy.licenses IsLawfulLicensing) }
     ensures cause { IfErr result (IsNoPolicy text.now file) }
     ensures files { IfOk result (λ policy. files.new ≡ files.old ++ globs_files (builtin_file_of policy.bans)) }
@@ -266,40 +267,40 @@ fn policy_of(
 {
     let tables = tables_of(alloc, text)?;
     let warnings = warnings_len(&tables.bans);
-    let mut told = List::new(alloc);
+    let mut reported = List::new(alloc);
     let bans = tables.bans.validate(ValidationContext {
         alloc,
         cfg_id: file,
         files,
-        diagnostics: &mut told,
+        diagnostics: &mut reported,
     })?;
-    if told.len() == warnings {
+    if reported.len() == warnings {
         Ok(Policy {
             bans,
             licenses: tables.licenses,
-            warnings: told,
+            warnings: reported,
         })
     } else {
-        let clashes = told.len() - warnings;
-        Err(PolicyError::Invalid(first_told(told, clashes)))
+        let clashes = reported.len() - warnings;
+        Err(PolicyError::Invalid(first_reported(reported, clashes)))
     }
 }
 
-/// Reads the policy of a text of under 2^28 bytes, and puts the text behind the other files as
-/// `deny.toml`, if it is UTF-8, and behind that the file of the built-in globs, if it asks for these; there have to
-/// be fewer than 2^30 others.
+/// Reads a policy from a text of under 2^28 bytes. Adds the text, if it is UTF-8, behind the other files as
+/// `deny.toml`, and behind that the file of the built-in globs, if the policy asks for them. There have to
+/// be fewer than 2^30 other files.
 ///
-/// `Config` comes exactly where the text has faults, `Invalid` exactly where it has none and entries
-/// of it clash. `Memory` may come in place of each of these; the files were then put behind the others,
-/// or the first of them, or none.
+/// The error is `Config` exactly where the text has faults, and `Invalid` exactly where it has none and some
+/// entries clash. `Memory` may come in place of each of these, and in place of a policy; then both files may
+/// have been added, or the first of them, or none.
 pub fn read_policy(alloc: Global, bytes: &[u8], files: &mut Files) -> Result<Policy, PolicyError>
     requires small { length bytes.now < 2 ^ 28 }
     requires few { length files.old < 2 ^ 30 }
     ensures policy { IfOk result (IsPolicyOf bytes.now (length files.old)) }
     ensures labels { IfOk result (λ policy. AreLabels bytes.now (word_labels policy.bans)) }
-    ensures older_key { IfOk result (λ policy. All (IsRange bytes.now) (older_range policy.bans)) }
+    ensures older_key { IfOk result (λ policy. All (IsSpan bytes.now) (older_span policy.bans)) }
     ensures lawful { IfOk result (λ policy. IsLawful policy.bans) }
-    ensures licence_labels { IfOk result (λ policy. AreLabels bytes.now (licence_ranges policy.licenses)) }
+    ensures licence_labels { IfOk result (λ policy. AreLabels bytes.now (licence_spans policy.licenses)) }
     ensures lawful_licences { IfOk result (λ policy. IfSome policy.licenses IsLawfulLicensing) }
     ensures cause { IfErr result (IsNoPolicy bytes.now (length files.old)) }
     ensures kept { IfOk result (λ policy. files.new ≡ files.old ++ policy_files bytes.now policy.bans) }

@@ -1,4 +1,4 @@
--- No line of a dead entry, of what was not read or is malformed, none of a stop and no summary holds a float.
+-- No value of a dead entry, of something unread or malformed, of a stop or of a summary holds a float.
 use Rattle.std.proofs.Common.{◌≡◌, ℕ, false, List, [], ◌∷◌, Option, None, Some, codes, refl}
 use Rattle.std.specs.Option.{option_map_or}
 use Rattle.std.specs.Prelude.{map}
@@ -9,13 +9,13 @@ use Rattle.deny_base.specs.declared.entry.EntryId.{EntryId}
 use Rattle.deny_base.specs.declared.span.Kid.{Kid}
 use Rattle.deny_cfg.specs.PolicyText.{policy_file}
 use Rattle.deny_krates.specs.Ids.{crate_of}
-use Rattle.deny_model.specs.Graph.{Crate, Graph}
-use Rattle.deny_toml.specs.declared.error.ConfigFault.{ConfigFault}
-use Rattle.deny_unread.specs.declared.unread.Unread.{Unread}
+use Rattle.deny_spec.specs.Graph.{Crate, Graph}
+use Rattle.deny_toml.specs.error.ConfigFault.{ConfigFault}
+use Rattle.deny_base.specs.declared.unread.Unread.{Unread}
 use Rattle.deny_gate.specs.declared.report.GateError.TheVariants as gate
 use Rattle.deny_gate.specs.declared.report.Report.{Report}
-use Rattle.deny_json.specs.Diagnostics.{diagnostic_value, tells}
-use Rattle.deny_json.proofs.FloatLemmas.{in_diagnostic, in_front, in_items, in_tells}
+use Rattle.deny_gate_json.specs.Diagnostics.{diagnostic_value, reports}
+use Rattle.deny_gate_json.proofs.FloatLemmas.{in_diagnostic, in_front, in_items, in_reports}
 use Rattle.deny_cli.specs.Dead.{dead_value}
 use Rattle.deny_cli.specs.Stops.{fault_value, stop_fields, stop_word}
 use Rattle.deny_cli.specs.Summary.{report_summary}
@@ -38,7 +38,7 @@ pub in_unread : (g : Graph) (u : Unread) → has_float (unread_value g u) ≡ fa
 in_unread g u =
     let others = member (codes "path") (string u.path)
     (member (codes "purpose") (string (purpose_word u.purpose)) no_members) in
-    in_tells (codes "unread") (member (codes "crate") (wanted_for g u.krate) others)
+    in_reports (codes "unread") (member (codes "crate") (wanted_for g u.krate) others)
     (in_front (codes "crate") (wanted_for g u.krate) others (in_wanted g u.krate) refl)
 
 pub in_malformed : (path : List ℕ) → has_float (malformed_value path) ≡ false
@@ -58,10 +58,10 @@ in_stop_fields policy (Read which) = refl
 in_stop_fields policy (Long which) = refl
 in_stop_fields policy (Gate (gate.Config faults)) = in_front (codes "faults")
     (array (items_of (map fault_value faults))) (stop_word (codes "config")) (in_items fault_value in_fault faults) refl
-in_stop_fields policy (Gate (gate.Invalid told)) =
-    in_front (codes "diagnostics") (array (items_of (map (diagnostic_value (policy_file policy ∷ [])) told)))
+in_stop_fields policy (Gate (gate.Invalid clashes)) =
+    in_front (codes "diagnostics") (array (items_of (map (diagnostic_value (policy_file policy ∷ [])) clashes)))
     (stop_word (codes "invalid"))
-    (in_items (diagnostic_value (policy_file policy ∷ [])) (in_diagnostic (policy_file policy ∷ [])) told) refl
+    (in_items (diagnostic_value (policy_file policy ∷ [])) (in_diagnostic (policy_file policy ∷ [])) clashes) refl
 in_stop_fields policy (Gate (gate.Metadata fault)) = refl
 in_stop_fields policy (Gate (gate.Replacement at)) = refl
 in_stop_fields policy (Gate gate.Memory) = refl
@@ -69,5 +69,5 @@ in_stop_fields policy (Write report) = refl
 in_stop_fields policy Memory = refl
 
 pub in_stop : (policy : List ℕ) (outcome : Outcome)
-    → has_float (tells (codes "stop") (stop_fields policy outcome)) ≡ false
-in_stop policy outcome = in_tells (codes "stop") (stop_fields policy outcome) (in_stop_fields policy outcome)
+    → has_float (reports (codes "stop") (stop_fields policy outcome)) ≡ false
+in_stop policy outcome = in_reports (codes "stop") (stop_fields policy outcome) (in_stop_fields policy outcome)

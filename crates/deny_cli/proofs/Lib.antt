@@ -1,3 +1,5 @@
+pub mod ArgumentsLemmas
+pub mod ArgumentsRows
 pub mod CausesLemmas
 pub mod CountLemmas
 pub mod FloatLemmas
@@ -7,7 +9,5 @@ pub mod ReadingLemmas
 pub mod ReportLemmas
 pub mod Rows
 pub mod StopLemmas
-pub mod ToldLemmas
 pub mod UnreadLemmas
-pub mod WordsLemmas
-pub mod WordsRows
+pub mod ValueLemmas

@@ -1,16 +1,16 @@
--- Readings that stop a run: of which text, and that it was asked for.
+-- Readings that stop a run: of which input, and that it was asked for.
 use Rattle.std.proofs.Common.{◌≡◌, ◌≤◌, ◌^◌, ℕ, List, [], Option, None, Some, Result, Ok, Err, refl, sym, subst, arith}
 use Rattle.std.specs.Prelude.{IfErr, IfSome, IsErrAnd, option_map, ⊤}
-use Rattle.deny_outside.specs.Count.{RoseBy}
-use Rattle.deny_outside.specs.Disk.{Disk, Files, FailedAt, IsLater, bytes_at}
+use Rattle.deny_base_disk.specs.Count.{RoseBy}
+use Rattle.deny_base_disk.specs.Disk.{Disk, Files, FailedAt, IsLater, bytes_at}
 use Rattle.deny_base.specs.declared.check.Which.{Which}
 use Rattle.deny_base.specs.declared.check.Which.TheVariants.{Policy, Metadata, Replacements}
-use Rattle.deny_outside.specs.declared.disk.Call.TheVariants as call
-use Rattle.deny_gate.specs.Gating.{Texts}
+use Rattle.deny_base_disk.specs.declared.disk.Call.TheVariants as call
+use Rattle.deny_gate.specs.Gating.{InputTexts}
 use Rattle.deny_cli.specs.Causes.{AreShortBefore, IsAskedFor, IsFaultAt, IsFirstLong, IsLong, IsLongAt, IsLongThere}
-use Rattle.deny_cli.specs.Causes.{IsReadAt, IsReadIfNamed, IsShort, known_texts, texts_at}
+use Rattle.deny_cli.specs.Causes.{IsReadAt, IsReadIfNamed, IsShort, known_inputs, inputs_at}
 use Rattle.deny_cli.specs.private.Causes.{IsReadStop, StopsCommand}
-use Rattle.deny_cli.specs.Words.{Asked, check, path_of}
+use Rattle.deny_cli.specs.Arguments.{CheckArguments, check, path_of}
 use Rattle.deny_cli.specs.declared.outcome.Outcome.{Outcome}
 use Rattle.deny_cli.specs.declared.outcome.Outcome.TheVariants.{Done, Usage, Read, Long, Gate, Write, Memory}
 
@@ -27,13 +27,13 @@ failed_since old between new path later failed = record {
       (new.faults_at call.Read path) (later.faults_at call.Read path) failed.faults_at;
 }
 
--- what is so of told files follows from two things that are
-both_told : {P Q R : Files → Type 0} (told : Option Files) → ((files : Files) → P files → Q files → R files)
+-- a property of the files that a disk tells, by two others
+both_known : {P Q R : Files → Type 0} (told : Option Files) → ((files : Files) → P files → Q files → R files)
     → IfSome told P → IfSome told Q → IfSome told R
-both_told None by p q = tt
-both_told (Some files) by p q = by files p q
+both_known None by p q = tt
+both_known (Some files) by p q = by files p q
 
--- what was read on a later disk stands on the earlier one
+-- what was read on a later disk is there on the earlier one
 pub read_since : (old between : Disk) (path text : List ℕ) → IsLater old between → IsReadAt between path text
     → IsReadAt old path text
 read_since old between path text later read = record {
@@ -47,9 +47,9 @@ read_if_named_since old between None text later read = read
 read_if_named_since old between (Some path) None later read = read
 read_if_named_since old between (Some path) (Some text) later read = read_since old between path text later read
 
--- ---- texts that are asked for
+-- ---- inputs that are asked for
 
--- a text that was read is short where it stands
+-- a text that was read is short on the disk
 short_there : (told : Option Files) (path text : List ℕ) → IfSome told (λ files. text ≡ bytes_at files path)
     → IsShort text → IfSome told (λ files. IsShort (bytes_at files path))
 short_there None path text whole short = tt
@@ -59,24 +59,26 @@ always : (told : Option Files) → IfSome told (λ files. ⊤)
 always None = tt
 always (Some files) = tt
 
--- what is so of the texts that stand on a disk, where it tells its files, is so of those that are known
-are_known : (told : Option Files) (asked : Asked) (P : Texts → Type 0) → IfSome told (λ files. P (texts_at files asked))
-    → IfSome (known_texts told (check asked)) P
+-- a property of the inputs on a disk that tells its files is one of the inputs that are known
+are_known : (told : Option Files) (asked : CheckArguments) (P : InputTexts → Type 0)
+    → IfSome told (λ files. P (inputs_at files asked))
+    → IfSome (known_inputs told (check asked)) P
 are_known None asked P is = tt
 are_known (Some files) asked P is = is
 
-are_there : (told : Option Files) (asked : Asked) (P : Texts → Type 0) → IfSome (known_texts told (check asked)) P
-    → IfSome told (λ files. P (texts_at files asked))
+are_there : (told : Option Files) (asked : CheckArguments) (P : InputTexts → Type 0)
+    → IfSome (known_inputs told (check asked)) P
+    → IfSome told (λ files. P (inputs_at files asked))
 are_there None asked P is = tt
 are_there (Some files) asked P is = is
 
-pub policy_asked_for : (old : Disk) (asked : Asked) → IsAskedFor old (check asked) Policy asked.policy
+pub policy_asked_for : (old : Disk) (asked : CheckArguments) → IsAskedFor old (check asked) Policy asked.policy
 policy_asked_for old asked = record {
   is_its_path = refl;
   before = are_known old.files asked (λ texts. AreShortBefore texts Policy) (always old.files);
 }
 
-pub metadata_asked_for : (old : Disk) (asked : Asked) (policy : List ℕ) → IsReadAt old asked.policy policy
+pub metadata_asked_for : (old : Disk) (asked : CheckArguments) (policy : List ℕ) → IsReadAt old asked.policy policy
     → IsAskedFor old (check asked) Metadata asked.metadata
 metadata_asked_for old asked policy read = record {
   is_its_path = refl;
@@ -84,7 +86,7 @@ metadata_asked_for old asked policy read = record {
       (short_there old.files asked.policy policy read.whole read.short);
 }
 
-pub replacements_asked_for : (old between : Disk) (asked : Asked) (policy metadata path : List ℕ)
+pub replacements_asked_for : (old between : Disk) (asked : CheckArguments) (policy metadata path : List ℕ)
     → asked.replacements ≡ Some path → IsLater old between → IsReadAt old asked.policy policy
     → IsReadAt between asked.metadata metadata → IsAskedFor old (check asked) Replacements path
 replacements_asked_for old between asked policy metadata path named later first second =
@@ -93,19 +95,20 @@ replacements_asked_for old between asked policy metadata path named later first 
     record {
       is_its_path = named;
       before = are_known old.files asked (λ texts. AreShortBefore texts Replacements)
-          (both_told {P = λ files. IsShort (bytes_at files asked.policy)}
+          (both_known {P = λ files. IsShort (bytes_at files asked.policy)}
           {Q = λ files. IsShort (bytes_at files asked.metadata)}
-          {R = λ files. AreShortBefore (texts_at files asked) Replacements} old.files (λ files p q. (p, q))
+          {R = λ files. AreShortBefore (inputs_at files asked) Replacements} old.files (λ files p q. (p, q))
           (short_there old.files asked.policy policy first.whole first.short)
           (short_there old.files asked.metadata metadata whole second.short));
     }
 
 -- ---- a reading that stops a run
 
--- a long text behind short ones is the first
-first_long : (files : Files) (asked : Asked) (which : Which) (path : List ℕ) → path_of (check asked) which ≡ Some path
-    → AreShortBefore (texts_at files asked) which → IsLong (bytes_at files path)
-    → IsFirstLong (texts_at files asked) which
+-- a long input behind short ones is the first
+first_long : (files : Files) (asked : CheckArguments) (which : Which) (path : List ℕ)
+    → path_of (check asked) which ≡ Some path
+    → AreShortBefore (inputs_at files asked) which → IsLong (bytes_at files path)
+    → IsFirstLong (inputs_at files asked) which
 first_long files asked Policy path is before long =
     let same : asked.policy ≡ path = cc is in
     subst (λ (p : List ℕ). IsLong (bytes_at files p)) (sym same) long
@@ -118,17 +121,18 @@ first_long files asked Replacements path is before long = (
   subst (λ (p : Option (List ℕ)). IsLongThere (option_map (bytes_at files) p)) (sym is) long,
 )
 
-first_told : (old : Disk) (asked : Asked) (which : Which) (path : List ℕ) → IsAskedFor old (check asked) which path
+first_reported : (old : Disk) (asked : CheckArguments) (which : Which) (path : List ℕ)
+    → IsAskedFor old (check asked) which path
     → IfSome old.files (λ files. IsLong (bytes_at files path))
-    → IfSome (known_texts old.files (check asked)) (λ texts. IsFirstLong texts which)
-first_told old asked which path named long =
+    → IfSome (known_inputs old.files (check asked)) (λ texts. IsFirstLong texts which)
+first_reported old asked which path named long =
     are_known old.files asked (λ texts. IsFirstLong texts which)
-    (both_told {P = λ files. AreShortBefore (texts_at files asked) which} {Q = λ files. IsLong (bytes_at files path)}
-    {R = λ files. IsFirstLong (texts_at files asked) which} old.files
+    (both_known {P = λ files. AreShortBefore (inputs_at files asked) which} {Q = λ files. IsLong (bytes_at files path)}
+    {R = λ files. IsFirstLong (inputs_at files asked) which} old.files
     (λ files before is. first_long files asked which path named.is_its_path before is)
     (are_there old.files asked (λ texts. AreShortBefore texts which) named.before) long)
 
-stops : (old between new : Disk) (asked : Asked) (which : Which) (path : List ℕ) (outcome : Outcome)
+stops : (old between new : Disk) (asked : CheckArguments) (which : Which) (path : List ℕ) (outcome : Outcome)
     → IsLater old between → IsAskedFor old (check asked) which path → IsReadStop between new which path outcome
     → StopsCommand old new (check asked) outcome []
 stops old between new asked which path (Read found) later named stop =
@@ -142,7 +146,7 @@ stops old between new asked which path (Long found) later named stop =
       path = path;
       asked_for = named;
       given = rose_since (2 ^ 28) old.given between.given new.given later.given stop.1;
-      first = first_told old asked which path named
+      first = first_reported old asked which path named
           (subst (λ (f : Option Files). IfSome f (λ files. IsLong (bytes_at files path))) later.files stop.2);
     })
 stops old between new asked which path (Done report) later named stop = absurd stop
@@ -151,8 +155,8 @@ stops old between new asked which path (Gate error) later named stop = absurd st
 stops old between new asked which path (Write report) later named stop = absurd stop
 stops old between new asked which path Memory later named stop = tt
 
--- and where it is handed on
-pub handed_on : {T : Type 0} (old between new : Disk) (asked : Asked) (which : Which) (path : List ℕ)
+-- a reading that stops a run stops the command, where it is handed on
+pub handed_on : {T : Type 0} (old between new : Disk) (asked : CheckArguments) (which : Which) (path : List ℕ)
     (result : Result T Outcome) (outcome : Outcome) → IsErrAnd result (λ handed. handed ≡ outcome)
     → IsLater old between → IsAskedFor old (check asked) which path → IsReadStop between new which path outcome
     → IfErr result (λ handed. StopsCommand old new (check asked) handed [])

@@ -1,16 +1,16 @@
--- Lines as they are read: the definitions of the lines, computed. Those of findings stand with their own definitions.
+-- Worked cases of lines. Those of findings are with the definitions of findings.
 use Rattle.std.proofs.Common.{◌≡◌, ◌++◌, false, [], ◌∷◌, None, codes, refl}
 use Rattle.std.specs.Fmt.{digits}
 use Rattle.serde_json.proofs.OnLiterals.{serde_json_on_literals}
 use Rattle.deny_base.specs.declared.check.Which.TheVariants as which
 use Rattle.deny_base.specs.declared.entry.EntryKind.TheVariants as entry
 use Rattle.deny_krates.specs.fault.MetadataFault.TheVariants as fault
-use Rattle.deny_model.specs.Graph.{Graph}
-use Rattle.deny_unread.specs.declared.purpose.Purpose.TheVariants as purpose
+use Rattle.deny_spec.specs.Graph.{Graph}
+use Rattle.deny_base.specs.declared.purpose.Purpose.TheVariants as purpose
 use Rattle.deny_gate.specs.declared.report.GateError.TheVariants as gate
 use Rattle.deny_gate.specs.declared.report.Verdict.TheVariants.{Pass, Fail}
-use Rattle.deny_json.specs.Lines.{line}
-use Rattle.deny_toml.specs.declared.error.FaultKind.TheVariants as kind
+use Rattle.deny_gate_json.specs.Lines.{line}
+use Rattle.deny_toml.specs.error.FaultKind.TheVariants as kind
 use Rattle.deny_cli.specs.Lines.{dead_line, malformed_line, unread_line, verdict_line}
 use Rattle.deny_cli.specs.Stops.{fault_value, stop_line}
 use Rattle.deny_cli.specs.Summary.{summary_value}
@@ -28,7 +28,7 @@ pub fails_twice : verdict_line (Fail 6) ≡ codes "{\"fields\":{\"bits\":6,\"ver
 unfolding serde_json_on_literals digits verdict_line
 fails_twice = refl
 
--- a dead entry is told by its kind and its range
+-- a dead entry is shown by its kind and its span
 pub is_dead : dead_line (record { kind = entry.Wrapper; range = record { start = 45; end = 46 } })
     ≡ codes "{\"fields\":{\"end\":46,\"kind\":\"wrapper\",\"start\":45},\"type\":\"dead\"}\n"
 unfolding serde_json_on_literals digits dead_line
@@ -39,7 +39,7 @@ pub is_dead_exception : dead_line (record { kind = entry.LicenseException; range
 unfolding serde_json_on_literals digits dead_line
 is_dead_exception = refl
 
--- what could not be read of a workspace that is no crate is of none
+-- what could not be read of a workspace that is no crate has no crate
 pub is_unread : (g : Graph)
     → unread_line g (record { krate = None; path = codes "/w/Cargo.toml"; purpose = purpose.Manifest }) ≡ codes
     "{\"fields\":{\"crate\":null,\"path\":\"/w/Cargo.toml\",\"purpose\":\"manifest\"},\"type\":\"unread\"}\n"
@@ -51,7 +51,7 @@ pub is_malformed : malformed_line (codes "/w/a/Cargo.toml")
 unfolding serde_json_on_literals digits malformed_line
 is_malformed = refl
 
--- of four crates and the member above them, three findings are errors
+-- a summary of four crates and the member above them, with three errors
 pub sums_up : line (summary_value 4 5 0 3 (Fail 2)) ≡ codes
     "{\"fields\":{\"crates\":5,\"dead\":0,\"errors\":3,\"generated\":4,\"verdict\":\"fail\"},\"type\":\"summary\"}\n"
 unfolding serde_json_on_literals digits

@@ -1,4 +1,4 @@
--- On the disk that is made for crates nothing is left unread: it never fails, and its texts are short.
+-- On the generated disk nothing is left unread: it never fails, and its texts are short.
 use Rattle.std.proofs.Common.{◌≡◌, ◌≢◌, ◌≤◌, ◌^◌, ℕ, Bool, true, false, List, [], ◌∷◌, ◌+◌, Option, None, Some, ap}
 use Rattle.std.proofs.Common.{get_or, length, codes, inl, inr, refl, sym, subst, arith}
 use Rattle.std.specs.Prelude.{AllPairs, is_some, cond, filter, map, if◌then◌else◌}
@@ -12,27 +12,27 @@ use Rattle.std.specs.Ordering.{eq_by_cmp, nat_cmp}
 use Rattle.std.proofs.lemmas.Bool.{leb-true}
 use Rattle.std.proofs.lemmas.List.{length-map}
 use Rattle.std.proofs.lemmas.List.Sums.{count_by-le-length, length-filter, sum_by-le}
-use Rattle.deny_lists.proofs.Members.{Contains-first, there}
+use Rattle.deny_base_lists.proofs.Members.{Contains-first, there}
 use Rattle.deny_krates.specs.Ids.{crate_of}
-use Rattle.deny_model.specs.Crates as crates
-use Rattle.deny_model.specs.Graph.{Crate, Graph}
-use Rattle.deny_outside.specs.Children.{children, entry_behind, prefix_of}
-use Rattle.deny_outside.specs.Disk.{Files, bytes_at, is_folder, text_of}
-use Rattle.deny_outside.specs.MemoryDisk.{folders_of, with_folder, with_folders}
-use Rattle.deny_outside.specs.SureDisk.{Sure, sure_seen}
-use Rattle.deny_outside.specs.declared.disk.Place.{Place}
-use Rattle.deny_outside.specs.declared.disk.Place.TheVariants.{Folder, File}
-use Rattle.deny_packages.specs.Why.{AreFoldersOf}
+use Rattle.deny_spec.specs.Crates as crates
+use Rattle.deny_spec.specs.Graph.{Crate, Graph}
+use Rattle.deny_base_disk.specs.Children.{children, entry_behind, prefix_of}
+use Rattle.deny_base_disk.specs.Disk.{Files, bytes_at, is_folder, text_of}
+use Rattle.deny_base_disk.specs.MemoryDisk.{folders_of, with_folder, with_folders}
+use Rattle.deny_base_disk.specs.SureDisk.{Sure, sure_seen}
+use Rattle.deny_base_disk.specs.declared.disk.Place.{Place}
+use Rattle.deny_base_disk.specs.declared.disk.Place.TheVariants.{Folder, File}
+use Rattle.deny_build_scan.specs.Why.{AreFoldersOf}
 use Rattle.deny_spans.proofs.IdLemmas.{crate_found}
-use Rattle.deny_unread.specs.Bound.{Folders, entries_in, is_bound, is_in, is_past, size_told}
-use Rattle.deny_unread.specs.Causes.{AreCaused, IsCaused}
-use Rattle.deny_unread.specs.Purpose.{limit_for, spent_for}
-use Rattle.deny_unread.specs.declared.purpose.Purpose.{Purpose}
-use Rattle.deny_unread.specs.declared.purpose.Purpose.TheVariants as purpose
-use Rattle.deny_unread.specs.declared.unread.Unread.{Unread}
+use Rattle.deny_base_unread.specs.Bound.{Folders, entries_in, is_bound, is_in, is_past, size_told}
+use Rattle.deny_base_unread.specs.Causes.{AreCaused, IsCaused}
+use Rattle.deny_base.specs.Purpose.{limit_for, spent_for}
+use Rattle.deny_base.specs.declared.purpose.Purpose.{Purpose}
+use Rattle.deny_base.specs.declared.purpose.Purpose.TheVariants as purpose
+use Rattle.deny_base.specs.declared.unread.Unread.{Unread}
 use Rattle.deny_cli.specs.Causes.{made_files}
 
--- ---- the files that are made are short
+-- ---- the generated files are short
 
 -- a place holds no text of more bytes
 abbrev IsWithin : ℕ → Option Place → Type 0
@@ -69,7 +69,7 @@ within_folders most files (folder ∷ folders) within =
 within_none : (most : ℕ) → AreWithin most finite.empty
 within_none most path = subst (IsWithin most) (sym (finite.get-empty (slice_cmp nat_cmp) path)) (omega arith)
 
--- no text that is made has more bytes than the manifest
+-- no generated text has more bytes than the manifest
 made_within : AreWithin 23 made_files
 unfolding made_files
 made_within =
@@ -78,7 +78,7 @@ made_within =
     within_inserted 23 (with_folders finite.empty (folders_of path)) path (File bytes)
     (within_folders 23 finite.empty (folders_of path) (within_none 23)) (omega arith)
 
--- ---- and few
+-- ---- the generated files are few
 
 -- the disk has no more entries
 abbrev AreFew : ℕ → Files → Type 0
@@ -126,7 +126,7 @@ made_few =
     few_inserted 2 (with_folders finite.empty (folders_of path)) path
     (File (codes "[package]\nname = \"app\"\n")) folders
 
--- so that no folder lists many
+-- ---- the generated disk has few entries in each folder
 
 few_given : {X Y : Type 0} (h : X → Option Y) (xs : List X) → length (filter_map h xs) ≤ length xs
 few_given h [] = omega arith
@@ -176,7 +176,7 @@ are_folders g apart c member =
     let at = there g.crates c member in
     ap (λ (found : Option Crate). option_map_or crates.folder found []) (crate_found g at.0 c apart at.1)
 
--- ---- so that no bound explains an entry, and no call fails
+-- ---- no bound explains an entry, and no call fails
 
 not_past : (folder : List ℕ) (p : Purpose) (path : List ℕ) (before after : ℕ)
     → is_past (limit_for p) (Some (size_told made_files folder p path)) before after ≡ true → ⊥

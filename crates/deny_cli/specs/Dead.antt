@@ -1,10 +1,10 @@
--- Entries that are dead, as a report's lines tell them.
+-- Dead entries as the lines of a report show them.
 use Rattle.std.specs.Prelude.{ℕ, List, codes}
 use Rattle.serde_json.specs.Data.{Data, string, number, unsigned, member, no_members}
 use Rattle.deny_base.specs.declared.entry.EntryId.{EntryId}
 use Rattle.deny_base.specs.declared.entry.EntryKind.{EntryKind}
 use Rattle.deny_base.specs.declared.entry.EntryKind.TheVariants as kind
-use Rattle.deny_json.specs.Diagnostics.{tells}
+use Rattle.deny_gate_json.specs.Diagnostics.{reports}
 
 abbrev pub entry_word : EntryKind → List ℕ
 entry_word kind.Skip = codes "skip"
@@ -17,9 +17,9 @@ entry_word kind.ReplacementIgnore = codes "replacement-ignore"
 entry_word kind.LicenseAllow = codes "license-allow"
 entry_word kind.LicenseException = codes "license-exception"
 
--- by the range of the entry's text, in bytes, and by its kind
+-- a dead entry by the span of its text, in bytes, and by its kind
 abbrev pub dead_value : EntryId → Data
-dead_value e = tells (codes "dead")
+dead_value e = reports (codes "dead")
     (member (codes "end") (number (unsigned e.range.end))
     (member (codes "kind") (string (entry_word e.kind))
     (member (codes "start") (number (unsigned e.range.start)) no_members)))

@@ -2,10 +2,10 @@
 use Rattle.std.specs.Prelude.{ℕ, ◌==◌, List, Option, Some, None, codes, length, option_and_then, if◌then◌else◌}
 use Rattle.deny_cli.specs.Options.{behind}
 
--- it is not empty
+-- a home is not empty
 abbrev pub nonempty_home : List ℕ → Option (List ℕ)
 nonempty_home path = if length path == 0 then None else Some path
 
 -- the home of `--home=PATH`
 unfoldable pub home_of : List ℕ → Option (List ℕ)
-home_of word = option_and_then nonempty_home (behind (codes "--home=") word)
+home_of argument = option_and_then nonempty_home (behind (codes "--home=") argument)

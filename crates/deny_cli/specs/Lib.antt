@@ -1,3 +1,4 @@
+pub mod Arguments
 pub mod Causes
 pub mod Dead
 pub mod Home
@@ -8,7 +9,6 @@ pub mod Outputs
 pub mod Registries
 pub mod Stops
 pub mod Summary
-pub mod Told
 pub mod Unread
-pub mod Words
+pub mod Values
 pub mod private

@@ -4,10 +4,10 @@ use Rattle.std.specs.List.{flat_map}
 use Rattle.serde_json.specs.Data.{Data, string, number, unsigned, member, no_members}
 use Rattle.deny_base.specs.declared.entry.EntryId.{EntryId}
 use Rattle.deny_base.specs.declared.files.File.{File}
-use Rattle.deny_model.specs.Graph.{Graph}
-use Rattle.deny_json.specs.Diagnostics.{tells}
-use Rattle.deny_json.specs.Lines.{diag_line, line}
-use Rattle.deny_unread.specs.declared.unread.Unread.{Unread}
+use Rattle.deny_spec.specs.Graph.{Graph}
+use Rattle.deny_gate_json.specs.Diagnostics.{reports}
+use Rattle.deny_gate_json.specs.Lines.{diag_line, line}
+use Rattle.deny_base.specs.declared.unread.Unread.{Unread}
 use Rattle.deny_gate.specs.declared.report.Finding.{Finding}
 use Rattle.deny_gate.specs.declared.report.Report.{Report}
 use Rattle.deny_gate.specs.declared.report.Verdict.{Verdict}
@@ -21,7 +21,7 @@ verdict_word Pass = codes "pass"
 verdict_word (Fail bits) = codes "fail"
 
 abbrev pub verdict_value : Verdict → Data
-verdict_value verdict = tells (codes "verdict")
+verdict_value verdict = reports (codes "verdict")
     (member (codes "bits") (number (unsigned (bits_of verdict)))
     (member (codes "verdict") (string (verdict_word verdict)) no_members))
 
@@ -32,11 +32,11 @@ finding_line files g finding = diag_line files g finding.kid finding.diag
 unfoldable pub dead_line : EntryId → List ℕ
 dead_line e = line (dead_value e)
 
--- of what could not be read, whose crate stands in the graph
+-- the line of what could not be read, whose crate is in the graph
 unfoldable pub unread_line : Graph → Unread → List ℕ
 unread_line g u = line (unread_value g u)
 
--- of a manifest that is malformed, by its path
+-- the line of a malformed manifest, by its path
 unfoldable pub malformed_line : List ℕ → List ℕ
 malformed_line path = line (malformed_value path)
 

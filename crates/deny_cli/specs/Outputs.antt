@@ -1,12 +1,12 @@
--- What a run leaves in its outputs, which tell by `written` what they took, where they tell it,
--- and by `faults` how often they failed.
+-- What a run leaves in its outputs. Outputs tell by `written` what they took, where they tell it, and by `faults` how
+-- often they failed.
 use Rattle.std.specs.Prelude.{◌≡◌, ◌⊎◌, ℕ, List, [], ◌∷◌, Option}
-use Rattle.deny_outside.specs.Count.{Rose}
-use Rattle.deny_outside.specs.Out.{Appends, AppendsPrefix}
-use Rattle.deny_json.specs.Reading.{AreJsonLines}
-use Rattle.deny_cli.specs.Stops.{stop_line, stop_told, memory_line}
+use Rattle.deny_base_disk.specs.Count.{Rose}
+use Rattle.deny_base_disk.specs.Out.{Appends, AppendsPrefix}
+use Rattle.deny_gate_json.specs.Reading.{AreJsonLines}
+use Rattle.deny_cli.specs.Stops.{stop_line, stop_value, memory_line}
 use Rattle.deny_cli.specs.Summary.{lines_for}
-use Rattle.deny_cli.specs.Words.{Command}
+use Rattle.deny_cli.specs.Arguments.{Command}
 use Rattle.deny_cli.specs.declared.outcome.Outcome.{Outcome}
 use Rattle.deny_cli.specs.declared.outcome.Outcome.TheVariants.{Done, Usage, Read, Long, Gate, Write, Memory}
 
@@ -15,7 +15,7 @@ abbrev pub FailsWriting : {W : Type 0} → (W → Option (List ℕ)) → (W → 
 FailsWriting written faults old new bytes =
     Rose (faults old) (faults new) × AppendsPrefix (written old) (written new) bytes
 
--- the standard output: what this command tells of the report, or nothing
+-- the standard output holds what the command writes of the report, or nothing
 abbrev pub LeavesOut : {W : Type 0} → (W → Option (List ℕ)) → (W → ℕ) → W → W → Option Command → Outcome → Type 0
 LeavesOut written faults old new asked (Done report) = Appends (written old) (written new) (lines_for asked report)
 LeavesOut written faults old new asked (Usage at) = new ≡ old
@@ -25,27 +25,27 @@ LeavesOut written faults old new asked (Gate error) = new ≡ old
 LeavesOut written faults old new asked (Write report) = FailsWriting written faults old new (lines_for asked report)
 LeavesOut written faults old new asked Memory = new ≡ old
 
--- this one line, or what a failing output took of it
+-- an output took a line, or failed with a prefix of it
 abbrev pub PutsLine : {W : Type 0} → (W → Option (List ℕ)) → (W → ℕ) → W → W → List ℕ → Type 0
 PutsLine written faults old new line =
     Appends (written old) (written new) line ⊎ FailsWriting written faults old new line
 
--- one line that tells the stop, JSON of one value; the labels of clashes lie in this text of the policy
+-- an output took the line of a stop, which is JSON of one value; the labels of clashes lie in this text of the policy
 abbrev pub PutsStop : {W : Type 0} → (W → Option (List ℕ)) → (W → ℕ) → W → W → Outcome → List ℕ → Type 0
 PutsStop written faults old new outcome policy = PutsLine written faults old new (stop_line policy outcome)
-    × AreJsonLines (stop_line policy outcome) (stop_told policy outcome ∷ [])
+    × AreJsonLines (stop_line policy outcome) (stop_value policy outcome ∷ [])
 
--- Want of memory in the making of that line puts the line of memory in its place.
-abbrev pub TellsStop : {W : Type 0} → (W → Option (List ℕ)) → (W → ℕ) → W → W → Outcome → List ℕ → Type 0
-TellsStop written faults old new outcome policy =
+-- Where memory ran out while that line was made, the line of memory is written instead.
+abbrev pub ReportsStop : {W : Type 0} → (W → Option (List ℕ)) → (W → ℕ) → W → W → Outcome → List ℕ → Type 0
+ReportsStop written faults old new outcome policy =
     PutsStop written faults old new outcome policy ⊎ PutsLine written faults old new memory_line
 
--- the standard error: nothing, or the line of the stop
+-- the standard error holds nothing, or the line of the stop
 abbrev pub LeavesErr : {W : Type 0} → (W → Option (List ℕ)) → (W → ℕ) → W → W → Outcome → List ℕ → Type 0
 LeavesErr written faults old new (Done report) policy = new ≡ old
-LeavesErr written faults old new (Usage at) policy = TellsStop written faults old new (Usage at) policy
-LeavesErr written faults old new (Read which) policy = TellsStop written faults old new (Read which) policy
-LeavesErr written faults old new (Long which) policy = TellsStop written faults old new (Long which) policy
-LeavesErr written faults old new (Gate error) policy = TellsStop written faults old new (Gate error) policy
-LeavesErr written faults old new (Write report) policy = TellsStop written faults old new (Write report) policy
-LeavesErr written faults old new Memory policy = TellsStop written faults old new Memory policy
+LeavesErr written faults old new (Usage at) policy = ReportsStop written faults old new (Usage at) policy
+LeavesErr written faults old new (Read which) policy = ReportsStop written faults old new (Read which) policy
+LeavesErr written faults old new (Long which) policy = ReportsStop written faults old new (Long which) policy
+LeavesErr written faults old new (Gate error) policy = ReportsStop written faults old new (Gate error) policy
+LeavesErr written faults old new (Write report) policy = ReportsStop written faults old new (Write report) policy
+LeavesErr written faults old new Memory policy = ReportsStop written faults old new Memory policy

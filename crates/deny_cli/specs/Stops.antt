@@ -1,4 +1,4 @@
--- The line that tells why a run stopped.
+-- The line of a stop, which says why a run stopped.
 use Rattle.std.specs.Prelude.{ℕ, List, [], ◌∷◌, codes, map}
 use Rattle.serde_json.specs.Data.{Data, array, string, number, unsigned, object, Members, member, no_members}
 use Rattle.serde_json.specs.View.{items_of}
@@ -11,12 +11,12 @@ use Rattle.deny_krates.specs.fault.MetadataFault.{MetadataFault}
 use Rattle.deny_krates.specs.fault.MetadataFault.TheVariants.{Json, Float, NoResolve, Shape, DuplicateId, DanglingId}
 use Rattle.deny_krates.specs.fault.MetadataFault.TheVariants.{Version, Requirement, Source, ManifestPath}
 use Rattle.deny_krates.specs.fault.MetadataFault.TheVariants.{Memory as OutOfMemory}
-use Rattle.deny_toml.specs.declared.error.ConfigFault.{ConfigFault}
-use Rattle.deny_toml.specs.declared.error.FaultKind.{FaultKind}
-use Rattle.deny_toml.specs.declared.error.FaultKind.TheVariants as kind
+use Rattle.deny_toml.specs.error.ConfigFault.{ConfigFault}
+use Rattle.deny_toml.specs.error.FaultKind.{FaultKind}
+use Rattle.deny_toml.specs.error.FaultKind.TheVariants as kind
 use Rattle.deny_gate.specs.declared.report.GateError.TheVariants as gate
-use Rattle.deny_json.specs.Diagnostics.{diagnostic_value, tells}
-use Rattle.deny_json.specs.Lines.{line}
+use Rattle.deny_gate_json.specs.Diagnostics.{diagnostic_value, reports}
+use Rattle.deny_gate_json.specs.Lines.{line}
 use Rattle.deny_cli.specs.declared.outcome.Outcome.{Outcome}
 use Rattle.deny_cli.specs.declared.outcome.Outcome.TheVariants.{Done, Usage, Read, Long, Gate, Write, Memory}
 
@@ -54,12 +54,12 @@ abbrev pub config_fields : List ConfigFault → Members
 config_fields faults = member (codes "faults") (array (items_of (map fault_value faults))) (stop_word (codes "config"))
 
 abbrev pub invalid_fields : List File → List Diagnostic → Members
-invalid_fields files told = member (codes "diagnostics") (array (items_of (map (diagnostic_value files) told)))
+invalid_fields files clashes = member (codes "diagnostics") (array (items_of (map (diagnostic_value files) clashes)))
     (stop_word (codes "invalid"))
 
 -- ---- faults of the metadata
 
--- the word of a fault of the metadata, and its text; want of memory is none, and never told so
+-- the word of a fault of the metadata; out of memory has another line
 abbrev pub fault_word : MetadataFault → List ℕ
 fault_word Json = codes "json"
 fault_word Float = codes "float"
@@ -93,33 +93,33 @@ fault_fields fault =
 
 -- ---- a table of replacements
 
--- the offset of its first break, or 0 where there is none
+-- the fields of a missing table: the offset of its first break, or 0 where there is no table
 abbrev pub replacement_fields : ℕ → Members
 replacement_fields at = member (codes "offset") (number (unsigned at)) (stop_word (codes "replacement"))
 
 -- ---- all stops
 
--- the policy's text is what the labels of clashes lie in; no other stop tells of it
+-- the fields of each stop; the labels of clashes lie in the policy's text, which no other stop uses
 abbrev pub stop_fields : List ℕ → Outcome → Members
 stop_fields policy (Done report) = no_members
 stop_fields policy (Usage at) = member (codes "at") (number (unsigned at)) (stop_word (codes "usage"))
 stop_fields policy (Read which) = stop_at_file (codes "read") which
 stop_fields policy (Long which) = stop_at_file (codes "long") which
 stop_fields policy (Gate (gate.Config faults)) = config_fields faults
-stop_fields policy (Gate (gate.Invalid told)) = invalid_fields (policy_file policy ∷ []) told
+stop_fields policy (Gate (gate.Invalid clashes)) = invalid_fields (policy_file policy ∷ []) clashes
 stop_fields policy (Gate (gate.Metadata fault)) = fault_fields fault
 stop_fields policy (Gate (gate.Replacement at)) = replacement_fields at
 stop_fields policy (Gate gate.Memory) = stop_word (codes "memory")
 stop_fields policy (Write report) = stop_word (codes "write")
 stop_fields policy Memory = stop_word (codes "memory")
 
-abbrev pub stop_told : List ℕ → Outcome → Data
-stop_told policy outcome = tells (codes "stop") (stop_fields policy outcome)
+abbrev pub stop_value : List ℕ → Outcome → Data
+stop_value policy outcome = reports (codes "stop") (stop_fields policy outcome)
 
--- the line that tells why a run stopped
+-- the line of a stop
 unfoldable pub stop_line : List ℕ → Outcome → List ℕ
-stop_line policy outcome = line (stop_told policy outcome)
+stop_line policy outcome = line (stop_value policy outcome)
 
--- the line that tells that memory ran out
+-- the line of a run that is out of memory
 unfoldable pub memory_line : List ℕ
-memory_line = line (tells (codes "stop") (stop_word (codes "memory")))
+memory_line = line (reports (codes "stop") (stop_word (codes "memory")))

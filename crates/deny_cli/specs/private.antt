@@ -1,6 +1,6 @@
+pub mod Arguments
 pub mod Causes
 pub mod Commands
+pub mod Counted
 pub mod Outputs
 pub mod Stops
-pub mod Told
-pub mod Words

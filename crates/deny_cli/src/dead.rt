@@ -1,11 +1,11 @@
-//! Entries that are dead, as JSON.
+//! Dead entries as JSON.
 ghost use Rattle.std.specs.Prelude.{◌≡◌, IfOk};
 ghost use Rattle.serde_json.specs.View.{view};
 ghost use Rattle.deny_cli.specs.Dead.{dead_value, entry_word};
 
 use crate::line_value::line_value;
 use deny_base::{EntryId, EntryKind};
-use deny_lists::NoMemory;
+use deny_base_lists::NoMemory;
 use serde_json::{Value, json};
 use std::alloc::Global;
 

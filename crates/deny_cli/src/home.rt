@@ -5,7 +5,7 @@ ghost use Rattle.deny_cli.specs.Home.{home_of, nonempty_home};
 
 use crate::options::behind;
 
-/// A home, which is not empty.
+/// A home that is not empty.
 fn nonempty_home(path: &str) -> Option<&str>
     ensures { option_copied result ≡ nonempty_home path.now }
 {
@@ -14,10 +14,10 @@ fn nonempty_home(path: &str) -> Option<&str>
 
 /// The home that an option names: `--home=PATH`.
 #[tactic(auto, unfolding(crate::specs::Home::home_of))]
-pub fn home_of(word: &str) -> Option<&str>
-    ensures { option_copied result ≡ home_of word.now }
+pub fn home_of(argument: &str) -> Option<&str>
+    ensures { option_copied result ≡ home_of argument.now }
 {
-    match behind("--home=", word) {
+    match behind("--home=", argument) {
         Some(path) => nonempty_home(path),
         None => None,
     }

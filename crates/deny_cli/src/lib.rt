@@ -1,6 +1,7 @@
-//! The command line as a library call: from words to texts, the gate, lines and a status.
+//! The command line as a library call: from arguments to inputs, the gate, lines and a status.
 #![tactic(auto)]
 
+mod arguments;
 mod dead;
 mod home;
 mod laws;
@@ -14,7 +15,6 @@ mod status;
 mod stops;
 mod summary;
 mod unread;
-mod words;
 
 pub use laws::lines_are_json;
 pub use outcome::{Ended, Outcome};

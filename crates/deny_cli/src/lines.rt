@@ -5,21 +5,21 @@ ghost use Rattle.serde_json.specs.View.{view};
 ghost use Rattle.deny_cli.specs.Lines.{dead_line, finding_line, lines, malformed_line};
 ghost use Rattle.deny_cli.specs.Lines.{unread_line, verdict_line, verdict_value, verdict_word};
 ghost use Rattle.deny_cli.specs.Outcome.{bits_of};
-ghost use Rattle.deny_cli.specs.Told.{HasNumbers, told};
-ghost use Rattle.deny_cli.specs.private.Told.{IsCounted};
-ghost use Rattle.deny_json.specs.Reading.{IsPlain};
+ghost use Rattle.deny_cli.specs.Values.{HasNumbers, report_values};
+ghost use Rattle.deny_cli.specs.private.Counted.{IsCounted};
+ghost use Rattle.deny_gate_json.specs.Reading.{IsPlain};
 
 use crate::dead::dead_value;
 use crate::line_value::line_value;
 use crate::outcome::bits;
 use crate::unread::{malformed_value, unread_value};
 use deny_base::{EntryId, Files};
+use deny_base_lists::{NoMemory, Text};
+use deny_base_unread::Unread;
 use deny_gate::{Finding, Report, Verdict};
-use deny_json::{diag_line, line};
+use deny_gate_json::{diag_line, line};
 use deny_krates::Krates;
-use deny_lists::{NoMemory, Text};
-use deny_trees::InclusionGrapher;
-use deny_unread::Unread;
+use deny_krates_trees::InclusionGrapher;
 use serde_json::{Value, json};
 use std::alloc::Global;
 
@@ -44,7 +44,7 @@ fn verdict_value(alloc: Global, verdict: Verdict) -> Result<Value, NoMemory>
 }
 
 /// The line of a finding, with its trees.
-#[tactic(auto, unfolding(crate::specs::Lines::finding_line, crate::specs::private::Told::IsCounted))]
+#[tactic(auto, unfolding(crate::specs::Lines::finding_line, crate::specs::private::Counted::IsCounted))]
 fn finding_line(
     alloc: Global,
     files: &Files,
@@ -84,7 +84,7 @@ fn unread_line(alloc: Global, krates: &Krates, entry: &Unread) -> Result<Text, N
     line(alloc, &unread_value(alloc, krates, entry)?)
 }
 
-/// The line of a manifest that is malformed.
+/// The line of a malformed manifest.
 #[tactic(auto, unfolding(crate::specs::Lines::malformed_line))]
 fn malformed_line(alloc: Global, path: &str) -> Result<Text, NoMemory>
     ensures { IfOk result (λ text. text ≡ malformed_line path.now) }
@@ -136,7 +136,7 @@ fn push_unread(
     Ok(())
 }
 
-/// Adds the lines of manifests that are malformed, in their order.
+/// Adds the lines of malformed manifests, in their order.
 fn push_malformed(alloc: Global, malformed: &[Text], text: &mut Text) -> Result<(), NoMemory>
     ensures { OnOk result (text.new ≡ text.old ++ flat_map malformed_line malformed.now) }
 {
@@ -150,7 +150,7 @@ fn push_malformed(alloc: Global, malformed: &[Text], text: &mut Text) -> Result<
 #[tactic(auto, unfolding(crate::specs::Lines::lines))]
 fn push_lines(alloc: Global, report: &Report, text: &mut Text) -> Result<(), NoMemory>
     ensures text { OnOk result (text.new ≡ text.old ++ lines report.now) }
-    ensures plain { OnOk result (All IsPlain (told report.now)) }
+    ensures plain { OnOk result (All IsPlain (report_values report.now)) }
 {
     let grapher = InclusionGrapher::new(&report.krates);
     let findings = report.findings.as_slice();
@@ -162,10 +162,10 @@ fn push_lines(alloc: Global, report: &Report, text: &mut Text) -> Result<(), NoM
 }
 
 /// The lines of a report: its findings in order, with their trees, its dead entries, what could not be
-/// read, which manifests are malformed, and its verdict. All numbers that they tell have 64 bits.
+/// read, which manifests are malformed, and its verdict. All their numbers have 64 bits.
 pub fn lines(alloc: Global, report: &Report) -> Result<Text, NoMemory>
     ensures text { IfOk result (λ text. text ≡ lines report.now) }
-    ensures plain { OnOk result (All IsPlain (told report.now)) }
+    ensures plain { OnOk result (All IsPlain (report_values report.now)) }
 {
     let mut text = Text::new(alloc);
     push_lines(alloc, report, &mut text)?;

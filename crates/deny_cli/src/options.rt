@@ -1,11 +1,11 @@
-//! Options among words.
+//! Options among the arguments.
 ghost use Rattle.std.specs.Prelude.{◌≡◌};
 ghost use Rattle.std.specs.Option.{option_copied};
 ghost use Rattle.deny_cli.specs.Options.{behind};
 
-/// What stands behind the prefix of a word, if it begins so.
-pub fn behind<'w>(prefix: &str, word: &'w str) -> Option<&'w str>
-    ensures { option_copied result ≡ behind prefix.now word.now }
+/// The rest of an argument behind a prefix, if it has that.
+pub fn behind<'w>(prefix: &str, argument: &'w str) -> Option<&'w str>
+    ensures { option_copied result ≡ behind prefix.now argument.now }
 {
-    word.strip_prefix(prefix)
+    argument.strip_prefix(prefix)
 }

@@ -4,17 +4,17 @@ ghost use Rattle.deny_cli.specs.Outcome.{bits_of, status_of};
 use deny_base::Which;
 use deny_gate::{GateError, Report, Verdict};
 
-/// What a run comes to.
+/// The outcome of a run.
 #[derive(Drop)]
 pub enum Outcome {
     /// The report was written whole.
     Done(Report),
-    /// The words are not accepted: no accepted list goes on at the word of this number, or the
-    /// words end too early, and this is how many there are.
+    /// The arguments are not accepted: no accepted list goes on at the argument of this index, or the
+    /// arguments end too early, and this is how many there are.
     Usage(usize),
-    /// Reading this text failed.
+    /// Reading this input failed.
     Read(Which),
-    /// This text has 2^28 bytes or more.
+    /// This input has 2^28 bytes or more.
     Long(Which),
     /// The gate gave no report.
     Gate(GateError),
@@ -25,10 +25,10 @@ pub enum Outcome {
 }
 
 impl Outcome {
-    /// The status that a program ends with: the bits of the verdict where the run is done, and else
-    /// 16 for the words, 17 for reading, 18 for a text that is too long, 19 for faults of the policy,
-    /// 20 for entries of it that clash, 21 for a fault of the metadata, 22 for a table of
-    /// replacements that is wanted and not there, 23 for writing, 24 for memory.
+    /// The status that a program ends with: the bits of the verdict where the run is done, and otherwise 16
+    /// for the arguments, 17 for reading, 18 for an input that is too long, 19 for faults of the policy, 20
+    /// for entries of it that clash, 21 for a fault of the metadata, 22 for a table of replacements that is
+    /// asked for and not there, 23 for writing, 24 for memory.
     pub fn status(&self) -> u8
         ensures { result ≡ status_of self.now }
     {
@@ -58,7 +58,7 @@ pub(crate) fn bits(verdict: Verdict) -> u8
     }
 }
 
-/// What a run comes to, and the status that the program ends with.
+/// The outcome of a run, and the status that the program ends with.
 #[derive(Drop)]
 pub struct Ended {
     pub status: u8,

@@ -1,27 +1,27 @@
-//! The line that tells why a run stopped.
+//! The line of a stop, which says why a run stopped.
 ghost use Rattle.std.specs.Prelude.{◌≡◌, ◌<◌, ◌^◌, ◌∷◌, [], All, IfOk, IsUtf8, OnOk, codes, length, map};
 ghost use Rattle.serde_json.specs.Data.{member, no_members, number, put as with_member, string, unsigned};
 ghost use Rattle.serde_json.specs.View.{view};
 ghost use Rattle.deny_cfg.specs.PolicyText.{policy_file};
-ghost use Rattle.deny_json.specs.Diagnostics.{diagnostic_value, tells};
-ghost use Rattle.deny_json.specs.Reading.{AreJsonLines};
+ghost use Rattle.deny_gate_json.specs.Diagnostics.{diagnostic_value, reports};
+ghost use Rattle.deny_gate_json.specs.Reading.{AreJsonLines};
 ghost use Rattle.deny_cli.specs.Stops.{config_fields, fault_value, fault_detail};
 ghost use Rattle.deny_cli.specs.private.Stops.{HasSpan, HasStopNumbers, IsTextOf};
 ghost use Rattle.deny_cli.specs.Stops.{fault_fields, fault_word, file_word, invalid_fields, kind_word};
-ghost use Rattle.deny_cli.specs.Stops.{memory_line, replacement_fields, stop_at_file, stop_line, stop_told, stop_word};
+ghost use Rattle.deny_cli.specs.Stops.{memory_line, replacement_fields, stop_at_file, stop_line, stop_value, stop_word};
 
 use crate::line_value::line_value;
 use crate::outcome::Outcome;
 use deny_base::{Diagnostic, Files, Which};
+use deny_base_lists::{List, NoMemory, Text};
 use deny_gate::GateError;
-use deny_json::{diagnostic_value, line};
+use deny_gate_json::{diagnostic_value, line};
 use deny_krates::MetadataFault;
-use deny_lists::{List, NoMemory, Text};
 use deny_toml::{ConfigFault, FaultKind};
 use serde_json::{Value, json};
 use std::alloc::{AllocError, Global};
 
-/// The word for a text.
+/// The word of an input.
 fn file_word(which: Which) -> &'static str
     ensures { result.now ≡ file_word which }
 {
@@ -32,18 +32,18 @@ fn file_word(which: Which) -> &'static str
     }
 }
 
-/// A stop as JSON: its word, and what else is told of it under a name.
+/// A stop as JSON: its word, and one more field.
 fn stop_with(alloc: Global, name: &str, value: Value, word: &str) -> Result<Value, NoMemory>
-    ensures { IfOk result (λ stop. view stop ≡ tells (codes "stop")
+    ensures { IfOk result (λ stop. view stop ≡ reports (codes "stop")
         (with_member (codes "stop") (string word.now) (with_member name.now (view value) no_members))) }
 {
     line_value(alloc, "stop", json!(in alloc; {name: value, "stop": word})?)
 }
 
-/// A stop that a text is the cause of, as JSON.
+/// A stop by an input, as JSON.
 fn stop_at_file(alloc: Global, word: &str, which: Which) -> Result<Value, NoMemory>
     ensures { IfOk result (λ value. view value
-        ≡ tells (codes "stop") (stop_at_file word.now which)) }
+        ≡ reports (codes "stop") (stop_at_file word.now which)) }
 {
     let file = file_word(which);
     line_value(
@@ -96,9 +96,9 @@ fn fault_values(alloc: Global, faults: &[ConfigFault]) -> Result<Vec<Value>, All
     Ok(values)
 }
 
-/// A stop that faults of the policy are the cause of, as JSON.
+/// A stop by faults of the policy, as JSON.
 fn config_value(alloc: Global, faults: &List<ConfigFault>) -> Result<Value, NoMemory>
-    ensures value { IfOk result (λ value. view value ≡ tells (codes "stop") (config_fields faults.now)) }
+    ensures value { IfOk result (λ value. view value ≡ reports (codes "stop") (config_fields faults.now)) }
     ensures fit { OnOk result (All HasSpan faults.now) }
 {
     let faults = fault_values(alloc, faults.as_slice())?;
@@ -109,12 +109,12 @@ fn config_value(alloc: Global, faults: &List<ConfigFault>) -> Result<Value, NoMe
 fn diagnostic_values(
     alloc: Global,
     files: &Files,
-    told: &[Diagnostic],
+    clashes: &[Diagnostic],
 ) -> Result<Vec<Value>, AllocError>
-    ensures { IfOk result (λ values. map view values.items ≡ map (diagnostic_value files.now) told.now) }
+    ensures { IfOk result (λ values. map view values.items ≡ map (diagnostic_value files.now) clashes.now) }
 {
     let mut values = Vec::new(alloc);
-    for diagnostic in told {
+    for diagnostic in clashes {
         values.push(diagnostic_value(alloc, files, diagnostic)?)?;
     }
     Ok(values)
@@ -137,25 +137,33 @@ fn policy_files(alloc: Global, policy: &[u8]) -> Result<Files, NoMemory>
 }
 
 /// Clashes of the policy as JSON, in their order.
-fn clash_values(alloc: Global, policy: &[u8], told: &[Diagnostic]) -> Result<Vec<Value>, NoMemory>
+fn clash_values(
+    alloc: Global,
+    policy: &[u8],
+    clashes: &[Diagnostic],
+) -> Result<Vec<Value>, NoMemory>
     requires text { IsUtf8 policy.now }
     requires small { length policy.now < 2 ^ 28 }
     ensures { IfOk result (λ values. map view values.items
-        ≡ map (diagnostic_value (policy_file policy.now ∷ [])) told.now) }
+        ≡ map (diagnostic_value (policy_file policy.now ∷ [])) clashes.now) }
 {
     let files = policy_files(alloc, policy)?;
-    Ok(diagnostic_values(alloc, &files, told)?)
+    Ok(diagnostic_values(alloc, &files, clashes)?)
 }
 
-/// A stop that clashes of the policy are the cause of, as JSON.
-fn invalid_value(alloc: Global, policy: &[u8], told: &List<Diagnostic>) -> Result<Value, NoMemory>
+/// A stop by clashes of the policy, as JSON.
+fn invalid_value(
+    alloc: Global,
+    policy: &[u8],
+    clashes: &List<Diagnostic>,
+) -> Result<Value, NoMemory>
     requires text { IsUtf8 policy.now }
     requires small { length policy.now < 2 ^ 28 }
     ensures { IfOk result (λ value. view value
-        ≡ tells (codes "stop") (invalid_fields (policy_file policy.now ∷ []) told.now)) }
+        ≡ reports (codes "stop") (invalid_fields (policy_file policy.now ∷ []) clashes.now)) }
 {
-    let told = clash_values(alloc, policy, told.as_slice())?;
-    stop_with(alloc, "diagnostics", Value::from(told), "invalid")
+    let clashes = clash_values(alloc, policy, clashes.as_slice())?;
+    stop_with(alloc, "diagnostics", Value::from(clashes), "invalid")
 }
 
 /// The word of a fault of the metadata.
@@ -196,10 +204,10 @@ fn fault_detail(fault: &MetadataFault) -> &str
     }
 }
 
-/// A stop that a fault of the metadata is the cause of, as JSON.
+/// A stop by a fault of the metadata, as JSON.
 fn metadata_value(alloc: Global, fault: &MetadataFault) -> Result<Value, NoMemory>
     ensures { IfOk result (λ value. view value
-        ≡ tells (codes "stop") (fault_fields fault.now)) }
+        ≡ reports (codes "stop") (fault_fields fault.now)) }
 {
     let detail = fault_detail(fault);
     let word = fault_word(fault);
@@ -207,36 +215,35 @@ fn metadata_value(alloc: Global, fault: &MetadataFault) -> Result<Value, NoMemor
     line_value(alloc, "stop", fields)
 }
 
-/// A stop that a table of replacements is the cause of, as JSON: its first break, or 0 where there is
-/// none.
+/// A stop by a table of replacements, as JSON: its first break, or 0 where there is no table.
 fn replacement_value(alloc: Global, offset: usize) -> Result<Value, NoMemory>
-    ensures value { IfOk result (λ value. view value ≡ tells (codes "stop") (replacement_fields offset)) }
+    ensures value { IfOk result (λ value. view value ≡ reports (codes "stop") (replacement_fields offset)) }
     ensures fits { offset < 2 ^ 64 }
 {
     stop_with(alloc, "offset", Value::from(offset), "replacement")
 }
 
-/// A stop that words are the cause of, as JSON: the number of the one that is not accepted.
+/// A stop by arguments, as JSON: the index of the one that is not accepted.
 fn usage_value(alloc: Global, at: usize) -> Result<Value, NoMemory>
-    ensures value { IfOk result (λ value. view value ≡ tells (codes "stop")
+    ensures value { IfOk result (λ value. view value ≡ reports (codes "stop")
         (member (codes "at") (number (unsigned at)) (stop_word (codes "usage")))) }
     ensures fits { at < 2 ^ 64 }
 {
     stop_with(alloc, "at", Value::from(at), "usage")
 }
 
-/// A stop that the output is the cause of, as JSON.
+/// A stop by the output, as JSON.
 fn write_value(alloc: Global) -> Result<Value, NoMemory>
-    ensures { IfOk result (λ value. view value ≡ tells (codes "stop") (stop_word (codes "write"))) }
+    ensures { IfOk result (λ value. view value ≡ reports (codes "stop") (stop_word (codes "write"))) }
 {
     line_value(alloc, "stop", json!(in alloc; {"stop": "write"})?)
 }
 
-/// Why a run stopped, as JSON. There is none of want of memory, which has a line of its own, and
-/// none of a run that is done.
+/// The stop of a run, as JSON. There is none of out of memory, which has a line of its own, and none of a
+/// run that is done.
 fn stop_value(alloc: Global, outcome: &Outcome, policy: &[u8]) -> Result<Value, NoMemory>
     requires { IsTextOf outcome.now policy.now }
-    ensures value { IfOk result (λ value. view value ≡ stop_told policy.now outcome.now) }
+    ensures value { IfOk result (λ value. view value ≡ stop_value policy.now outcome.now) }
     ensures fit { OnOk result (HasStopNumbers outcome.now) }
 {
     match outcome {
@@ -244,7 +251,7 @@ fn stop_value(alloc: Global, outcome: &Outcome, policy: &[u8]) -> Result<Value, 
         Outcome::Read(which) => stop_at_file(alloc, "read", *which),
         Outcome::Long(which) => stop_at_file(alloc, "long", *which),
         Outcome::Gate(GateError::Config(faults)) => config_value(alloc, faults),
-        Outcome::Gate(GateError::Invalid(told)) => invalid_value(alloc, policy, told),
+        Outcome::Gate(GateError::Invalid(clashes)) => invalid_value(alloc, policy, clashes),
         Outcome::Gate(GateError::Metadata(fault)) => metadata_value(alloc, fault),
         Outcome::Gate(GateError::Replacement(at)) => replacement_value(alloc, *at),
         Outcome::Write(_) => write_value(alloc),
@@ -252,19 +259,18 @@ fn stop_value(alloc: Global, outcome: &Outcome, policy: &[u8]) -> Result<Value, 
     }
 }
 
-/// The line that tells why a run stopped, JSON of one value. Where entries of the policy clash, labels lie
-/// in its text.
+/// The line of a stop, JSON of one value. Where entries of the policy clash, labels lie in its text.
 #[tactic(auto, unfolding(crate::specs::Stops::stop_line), using(crate::proofs::StopLemmas::json_stop))]
 pub fn stop_line(alloc: Global, outcome: &Outcome, policy: &[u8]) -> Result<Text, NoMemory>
     requires { IsTextOf outcome.now policy.now }
     ensures text { IfOk result (λ text. text ≡ stop_line policy.now outcome.now) }
     ensures json { OnOk result
-        (AreJsonLines (stop_line policy.now outcome.now) (stop_told policy.now outcome.now ∷ [])) }
+        (AreJsonLines (stop_line policy.now outcome.now) (stop_value policy.now outcome.now ∷ [])) }
 {
     line(alloc, &stop_value(alloc, outcome, policy)?)
 }
 
-/// The line that tells that memory ran out.
+/// The line of a run that is out of memory.
 pub fn memory_line() -> &'static str
     ensures { result.now ≡ memory_line }
 {

@@ -1,31 +1,22 @@
-//! The line of a report on crates that were made, and what a command tells of a report.
+//! The line that sums up a report on generated crates, and what a command writes of a report.
 ghost use Rattle.std.specs.Prelude.{◌≡◌, ◌<◌, ◌^◌, All, codes, filter, length, IfOk, OnOk};
 ghost use Rattle.serde_json.specs.Data.{member, no_members, number, object, string, unsigned};
 ghost use Rattle.serde_json.specs.View.{view};
 ghost use Rattle.deny_gate.specs.Report.{has_error};
 ghost use Rattle.deny_cli.specs.private.Commands.{command_view};
 ghost use Rattle.deny_cli.specs.Summary.{answer_lines, report_summary, summary_line};
-ghost use Rattle.deny_cli.specs.Told.{answer_told};
-ghost use Rattle.deny_json.specs.Reading.{IsPlain};
+ghost use Rattle.deny_cli.specs.Values.{answer_values};
+ghost use Rattle.deny_gate_json.specs.Reading.{IsPlain};
 
+use crate::arguments::Command;
 use crate::line_value::line_value;
 use crate::lines::{lines, verdict_word};
-use crate::words::Command;
-use deny_base::Severity;
-use deny_gate::{Finding, Report};
-use deny_json::line;
+use deny_base_lists::{NoMemory, Text};
+use deny_gate::{Finding, Report, has_error};
+use deny_gate_json::line;
 use deny_krates::Krates;
-use deny_lists::{NoMemory, Text};
 use serde_json::{Value, json};
 use std::alloc::{AllocError, Global};
-
-/// Whether a finding has severity error.
-#[tactic(auto, unfolding(deny_gate::specs::Report::has_error))]
-fn has_error(finding: &Finding) -> bool
-    ensures { result ≡ has_error finding.now }
-{
-    matches!(finding.diag.diag.severity, Severity::Error)
-}
 
 /// How many findings have severity error.
 fn error_count(findings: &[Finding]) -> usize
@@ -49,7 +40,7 @@ fn crate_count(krates: &Krates) -> usize
     krates.krates().len()
 }
 
-/// The fields of a report on so many crates that were made, as JSON.
+/// The fields of the summary of a report on generated crates, as JSON.
 fn summary_fields(
     alloc: Global,
     made: u32,
@@ -70,8 +61,8 @@ fn summary_fields(
     })
 }
 
-/// A report on so many crates that were made, as JSON.
-#[tactic(auto, using(crate::proofs::ToldLemmas::summary_plain))]
+/// The summary of a report on so many generated crates, as JSON.
+#[tactic(auto, using(crate::proofs::ValueLemmas::summary_plain))]
 fn report_summary(alloc: Global, made: u32, report: &Report) -> Result<Value, NoMemory>
     ensures value { IfOk result (λ value. view value ≡ report_summary made report.now) }
     ensures plain { OnOk result (IsPlain (report_summary made report.now)) }
@@ -84,7 +75,7 @@ fn report_summary(alloc: Global, made: u32, report: &Report) -> Result<Value, No
     line_value(alloc, "summary", fields)
 }
 
-/// The line of a report on so many crates that were made.
+/// The line of the summary of a report on so many generated crates.
 #[tactic(auto, unfolding(crate::specs::Summary::summary_line))]
 fn summary_line(alloc: Global, made: u32, report: &Report) -> Result<Text, NoMemory>
     ensures text { IfOk result (λ text. text ≡ summary_line made report.now) }
@@ -93,11 +84,11 @@ fn summary_line(alloc: Global, made: u32, report: &Report) -> Result<Text, NoMem
     line(alloc, &report_summary(alloc, made, report)?)
 }
 
-/// What a command tells of a report: its lines, or one where the crates were made. All numbers in it have
-/// 64 bits.
+/// What a command writes of a report: its lines, or its summary where the crates were generated. All
+/// numbers in it have 64 bits.
 pub fn answer_lines(alloc: Global, command: Command<'_>, report: &Report) -> Result<Text, NoMemory>
     ensures text { IfOk result (λ text. text ≡ answer_lines (command_view command.entry) report.now) }
-    ensures plain { OnOk result (All IsPlain (answer_told (command_view command.entry) report.now)) }
+    ensures plain { OnOk result (All IsPlain (answer_values (command_view command.entry) report.now)) }
 {
     match command {
         Command::Check(_) => lines(alloc, report),

@@ -1,4 +1,4 @@
-//! What could not be read, and manifests that are malformed, as JSON.
+//! What could not be read, and malformed manifests, as JSON.
 ghost use Rattle.std.specs.Prelude.{◌≡◌, IfOk};
 ghost use Rattle.std.specs.Option.{option_copied};
 ghost use Rattle.serde_json.specs.View.{view};
@@ -6,13 +6,13 @@ ghost use Rattle.deny_cli.specs.Unread.{malformed_value, purpose_word, unread_va
 
 use crate::line_value::line_value;
 use deny_base::Kid;
+use deny_base_lists::NoMemory;
+use deny_base_unread::{Purpose, Unread};
 use deny_krates::Krates;
-use deny_lists::NoMemory;
-use deny_unread::{Purpose, Unread};
 use serde_json::{Value, json};
 use std::alloc::{AllocError, Global};
 
-/// The word of what something was read for.
+/// The word of a purpose.
 fn purpose_word(purpose: Purpose) -> &'static str
     ensures { result.now ≡ purpose_word purpose }
 {

@@ -1,37 +1,37 @@
--- Texts have one answer, since a text is one policy or is none for one reason, and bytes break at one place.
+-- Inputs have one answer, since a text is one policy or none for one reason, and bytes break at one offset.
 use Rattle.std.proofs.Common.{◌≡◌, ◌≢◌, ◌⊎◌, ◌∙◌, ℕ, List, [], ◌∷◌, Option, None, Some, Ok, Err, ap, inl}
 use Rattle.std.proofs.Common.{inr, refl, sym}
 use Rattle.deny_base.specs.declared.finding.Diagnostic.{Diagnostic}
 use Rattle.deny_base.specs.declared.span.Span.{Span}
-use Rattle.deny_cfg.specs.PolicyText.{IsPolicyOf, ListsFaults, TellsClashes}
+use Rattle.deny_cfg.specs.PolicyText.{IsPolicyOf, ListsFaults, ReportsClashes}
 use Rattle.deny_cfg.specs.declared.policy.Policy.{Policy}
 use Rattle.deny_krates.specs.fault.MetadataFault.{MetadataFault}
 use Rattle.deny_std_table.specs.declared.error.ReplacementError.TheVariants.{Bad}
 use Rattle.deny_toml.specs.Faults.{fault_at}
-use Rattle.deny_toml.specs.declared.error.ConfigFault.{ConfigFault}
-use Rattle.deny_toml.specs.declared.error.FaultKind.TheVariants.{Grammar}
-use Rattle.deny_codes.specs.Saying.{HasTable, IsBreakIn}
-use Rattle.deny_gate.specs.Gating.{AreOneCause, AsksForTable, HasGraph, HasPolicy, IsCause, IsFirstFault, Texts}
+use Rattle.deny_toml.specs.error.ConfigFault.{ConfigFault}
+use Rattle.deny_toml.specs.error.FaultKind.TheVariants.{Grammar}
+use Rattle.deny_spec_report.specs.Saying.{HasTable, IsBreakIn}
+use Rattle.deny_gate.specs.Gating.{AreOneCause, AsksForTable, HasGraph, HasPolicy, IsCause, IsFirstFault, InputTexts}
 use Rattle.deny_gate.specs.Report.{policy_id}
 use Rattle.deny_gate.specs.declared.report.GateError.{GateError}
 use Rattle.deny_gate.specs.declared.report.GateError.TheVariants.{Config, Invalid, Metadata, Replacement}
 use Rattle.deny_gate.specs.declared.report.GateError.TheVariants.{Memory}
 
--- what is known of a policy's text
+-- the laws on the text of a policy
 pub record TextLaws : Type 0 where
   pub faults : (text : List ℕ) → (xs ys : List ConfigFault) → ListsFaults text xs → ListsFaults text ys
       → (xs ≡ ys) ⊎ (((place : Span) × (xs ≡ fault_at Grammar [] place ∷ []))
       × ((place : Span) × (ys ≡ fault_at Grammar [] place ∷ [])))
-  pub clashes : (text : List ℕ) → (file : ℕ) → (xs ys : List Diagnostic) → TellsClashes text file xs
-      → TellsClashes text file ys → xs ≡ ys
-  pub faults_alone : (text : List ℕ) → (file : ℕ) → (faults : List ConfigFault) → (told : List Diagnostic)
-      → ListsFaults text faults → TellsClashes text file told → ⊥
+  pub clashes : (text : List ℕ) → (file : ℕ) → (xs ys : List Diagnostic) → ReportsClashes text file xs
+      → ReportsClashes text file ys → xs ≡ ys
+  pub faults_alone : (text : List ℕ) → (file : ℕ) → (faults : List ConfigFault) → (clashes : List Diagnostic)
+      → ListsFaults text faults → ReportsClashes text file clashes → ⊥
   pub no_policy_with_faults : (text : List ℕ) → (file : ℕ) → (faults : List ConfigFault) → (policy : Policy)
       → ListsFaults text faults → IsPolicyOf text file policy → ⊥
-  pub no_policy_with_clashes : (text : List ℕ) → (here there : ℕ) → (told : List Diagnostic) → (policy : Policy)
-      → TellsClashes text here told → IsPolicyOf text there policy → ⊥
+  pub no_policy_with_clashes : (text : List ℕ) → (here there : ℕ) → (clashes : List Diagnostic) → (policy : Policy)
+      → ReportsClashes text here clashes → IsPolicyOf text there policy → ⊥
 
--- bytes have one first break, or came not at all
+-- bytes have one first break, or none were handed in
 one_break : (bytes : Option (List ℕ)) (m n : ℕ) → IsBreakIn bytes m → IsBreakIn bytes n → m ≡ n
 one_break None m n this that = this ∙ sym that
 one_break (Some bytes) m n this that = let both : Err (Bad m) ≡ Err (Bad n) = sym this ∙ that in cc both
@@ -40,11 +40,11 @@ no_break : (bytes : Option (List ℕ)) (at : ℕ) → HasTable bytes → IsBreak
 no_break None at there is = there
 no_break (Some bytes) at there is = let both : Ok there.0 ≡ Err (Bad at) = sym there.1 ∙ is in cc both
 
--- metadata with a graph have no fault
+-- metadata with a graph has no fault
 no_fault : (metadata : List ℕ) (f : MetadataFault) → HasGraph metadata → IsFirstFault metadata f → ⊥
 no_fault metadata f graph is = let both : Ok graph.read ≡ Err f = sym graph.is_read ∙ is.is in cc both
 
-module _ (laws : TextLaws) (texts : Texts) where
+module _ (laws : TextLaws) (texts : InputTexts) where
   one_config : (xs ys : List ConfigFault) → ListsFaults texts.policy xs → ListsFaults texts.policy ys
       → AreOneCause (Config xs) (Config ys)
   one_config xs ys these those = elim (laws.faults texts.policy xs ys these those)
@@ -56,25 +56,25 @@ module _ (laws : TextLaws) (texts : Texts) where
         )
       ]
 
-  -- a policy has no cause of its own
+  -- the text of a policy has no faults
   no_faults : (faults : List ConfigFault) (said : Policy) → ListsFaults texts.policy faults
       → IsPolicyOf texts.policy policy_id said → ⊥
   no_faults faults said are is = laws.no_policy_with_faults texts.policy policy_id faults said are is
 
-  no_clashes : (told : List Diagnostic) (said : Policy) → TellsClashes texts.policy policy_id told
+  no_clashes : (clashes : List Diagnostic) (said : Policy) → ReportsClashes texts.policy policy_id clashes
       → IsPolicyOf texts.policy policy_id said → ⊥
-  no_clashes told said are is = laws.no_policy_with_clashes texts.policy policy_id policy_id told said are is
+  no_clashes clashes said are is = laws.no_policy_with_clashes texts.policy policy_id policy_id clashes said are is
 
   pub one_cause : (a b : GateError) → a ≢ Memory → b ≢ Memory → IsCause texts a → IsCause texts b → AreOneCause a b
   one_cause (Config xs) (Config ys) m n h k = one_config xs ys h k
-  one_cause (Config xs) (Invalid told) m n h k = absurd (laws.faults_alone texts.policy policy_id xs told h k)
+  one_cause (Config xs) (Invalid clashes) m n h k = absurd (laws.faults_alone texts.policy policy_id xs clashes h k)
   one_cause (Config xs) (Metadata f) m n h k = absurd (no_faults xs k.0.said h k.0.is_said)
   one_cause (Config xs) (Replacement at) m n h k = absurd (no_faults xs k.0.said h k.0.is_said)
-  one_cause (Invalid told) (Config ys) m n h k = absurd (laws.faults_alone texts.policy policy_id ys told k h)
-  one_cause (Invalid told) (Invalid others) m n h k = inl
-      (ap Invalid (laws.clashes texts.policy policy_id told others h k))
-  one_cause (Invalid told) (Metadata f) m n h k = absurd (no_clashes told k.0.said h k.0.is_said)
-  one_cause (Invalid told) (Replacement at) m n h k = absurd (no_clashes told k.0.said h k.0.is_said)
+  one_cause (Invalid clashes) (Config ys) m n h k = absurd (laws.faults_alone texts.policy policy_id ys clashes k h)
+  one_cause (Invalid clashes) (Invalid others) m n h k = inl
+      (ap Invalid (laws.clashes texts.policy policy_id clashes others h k))
+  one_cause (Invalid clashes) (Metadata f) m n h k = absurd (no_clashes clashes k.0.said h k.0.is_said)
+  one_cause (Invalid clashes) (Replacement at) m n h k = absurd (no_clashes clashes k.0.said h k.0.is_said)
   one_cause (Metadata f) (Config ys) m n h k = absurd (no_faults ys h.0.said k h.0.is_said)
   one_cause (Metadata f) (Invalid others) m n h k = absurd (no_clashes others h.0.said k h.0.is_said)
   one_cause (Metadata f) (Metadata e) m n h k = let same : Err f ≡ Err e = sym h.1.is ∙ k.1.is in inl (cc same)
@@ -90,7 +90,7 @@ module _ (laws : TextLaws) (texts : Texts) where
   pub no_cause : (error : GateError) → error ≢ Memory → HasPolicy texts.policy → HasGraph texts.metadata
       → (AsksForTable texts.policy → HasTable texts.replacements) → IsCause texts error → ⊥
   no_cause (Config faults) m there graph table h = no_faults faults there.said h there.is_said
-  no_cause (Invalid told) m there graph table h = no_clashes told there.said h there.is_said
+  no_cause (Invalid clashes) m there graph table h = no_clashes clashes there.said h there.is_said
   no_cause (Metadata f) m there graph table h = no_fault texts.metadata f graph h.1
   no_cause (Replacement at) m there graph table h = no_break texts.replacements at (table h.0) h.2
   no_cause Memory m there graph table h = m refl

@@ -1,16 +1,16 @@
--- Lists of which no two elements are one.
+-- Lists without equal elements.
 use Rattle.std.proofs.Common.{◌≡◌, ◌∙◌, ◌++◌, suc, List, [], ◌∷◌, ap, map, subst, sym, arith}
 use Rattle.std.specs.Prelude.{◌≢◌, AllPairs, Contains}
 use Rattle.std.specs.List.{flat_map}
 use Rattle.std.proofs.lemmas.List.Elements.{All-contains_itself, All-weaker, Contains-append_left}
 use Rattle.std.proofs.lemmas.List.Elements.{Contains-append_right}
 use Rattle.std.proofs.lemmas.List.Kept.{AllPairs-cons}
-use Rattle.deny_lists.proofs.Members.{Contains-by_cases, Contains-flat_map, contains_map, no_member}
+use Rattle.deny_base_lists.proofs.Members.{Contains-by_cases, Contains-flat_map, contains_map, no_member}
 
 abbrev pub AreApart : {A : Type 0} → List A → Type 0
 AreApart xs = AllPairs (λ one other. one ≢ other) xs
 
-pub apart_tail : {A : Type 0} (x : A) (xs : List A) → AreApart (x ∷ xs) → AreApart xs
+apart_tail : {A : Type 0} (x : A) (xs : List A) → AreApart (x ∷ xs) → AreApart xs
 apart_tail x xs apart = λ i j d below inside. apart (suc i) (suc j) d (omega (arith, below)) (omega (arith, inside))
 
 apart_head : {A : Type 0} (x : A) (xs : List A) → AreApart (x ∷ xs) → Contains xs x → ⊥
@@ -28,7 +28,7 @@ apart_left {A} (x ∷ xs) ys apart = AllPairs-cons (λ one other. one ≢ other)
     (Contains-append_left xs ys x (subst (λ (z : A). Contains xs z) (sym same) at))) xs (All-contains_itself xs))
     (apart_left xs ys (apart_tail x (xs ++ ys) apart))
 
--- what stands in the first part does not stand in the second
+-- a member of the first part is no member of the second
 pub apart_both : {A : Type 0} (xs ys : List A) (r : A) → AreApart (xs ++ ys) → Contains xs r → Contains ys r → ⊥
 apart_both [] ys r apart here there = no_member r here
 apart_both {A} (x ∷ xs) ys r apart here there = Contains-by_cases x xs r here
@@ -38,7 +38,7 @@ apart_both {A} (x ∷ xs) ys r apart here there = Contains-by_cases x xs r here
     right : (zs : List A) → Contains ys x → Contains (zs ++ ys) x
     right zs at = Contains-append_right zs ys x at
 
--- each element gives a part, and two that give one thing are one
+-- each element gives a part, and two elements whose parts share a member are equal
 module _ {X A : Type 0} (f : X → List A) where
   pub apart_of : (xs : List X) (x : X) → AreApart (flat_map f xs) → Contains xs x → AreApart (f x)
   apart_of [] x apart at = absurd (no_member x at)

@@ -1,4 +1,4 @@
--- Several crates of a name that the rules let stand side by side are those that the headline says stand so.
+-- The duplicates of a name by the rules are those of the headline.
 use Rattle.std.proofs.Common.{◌≡◌, ◌==◌, ◌≤◌, ℕ, Bool, true, false, not, List, [], ◌∷◌, length, Contains, refl, sym}
 use Rattle.std.proofs.Common.{◌∙◌, subst, inl, inr, arith}
 use Rattle.std.specs.Prelude.{◌&&◌, ◌||◌, filter}
@@ -12,19 +12,21 @@ use Rattle.std.proofs.lemmas.Bool.{false_from_ne_true, not-true, not_from_false}
 use Rattle.std.proofs.lemmas.Slice.Eq.{bytes_eq-Decides}
 use Rattle.semver.specs.OrderLaws.{pre_total}
 use Rattle.semver.specs.Parse.{Parts}
-use Rattle.deny_lists.specs.Ascending.{Lists}
-use Rattle.deny_lists.proofs.Members.{Contains-cases, Contains-filter, Contains-first, Contains-rest, all_at, any_from}
-use Rattle.deny_lists.proofs.Members.{any_passes, filtered, no_member, passes_filter}
-use Rattle.deny_lists.proofs.Orders.{not_below_itself}
-use Rattle.deny_model.specs.Facts.{Facts}
-use Rattle.deny_model.specs.Graph.{Crate, Graph, dependents}
-use Rattle.deny_model.specs.Groups.{group, has_name, is_in_group, is_internal, is_marked, is_rooted, may_stand, reduced}
-use Rattle.deny_model.specs.Groups.{unmarked}
-use Rattle.deny_model.specs.Match.{matches}
-use Rattle.deny_model.specs.Policy.{Entry, Policy, Root}
-use Rattle.deny_model.specs.VersionOrder.{precedence, version_cmp}
-use Rattle.deny_codes.proofs.Parts.{lists_same}
-use Rattle.deny_gate.specs.Headline.{IsNeeded, StandsBeside}
+use Rattle.deny_base_lists.specs.Ascending.{Lists}
+use Rattle.deny_base_lists.proofs.Members.{Contains-cases, Contains-filter, Contains-first, Contains-rest, all_at}
+use Rattle.deny_base_lists.proofs.Members.{any_from}
+use Rattle.deny_base_lists.proofs.Members.{any_passes, filtered, no_member, passes_filter}
+use Rattle.deny_base_lists.proofs.Orders.{not_below_itself}
+use Rattle.deny_spec.specs.Facts.{Facts}
+use Rattle.deny_spec.specs.Graph.{Crate, Graph, dependents}
+use Rattle.deny_spec.specs.Groups.{group, has_name, is_in_group, is_internal, is_marked, is_in_skipped_tree}
+use Rattle.deny_spec.specs.Groups.{may_duplicate, reduced}
+use Rattle.deny_spec.specs.Groups.{unmarked}
+use Rattle.deny_spec.specs.Match.{matches}
+use Rattle.deny_spec.specs.Policy.{Entry, Policy, Root}
+use Rattle.deny_spec.specs.VersionOrder.{precedence, version_cmp}
+use Rattle.deny_spec_report.proofs.Parts.{lists_same}
+use Rattle.deny_gate.specs.Headline.{IsNeeded, IsBeside}
 use Rattle.deny_gate.proofs.Covered.{depends_is, is_dependent}
 
 -- ---- two that ascend are not in a list of one
@@ -66,8 +68,8 @@ module _ (p : Policy) (g : Graph) (facts : Facts) (name : List ℕ) where
 
   skipped_none : (c : Crate) → is_marked p c ≡ false → (s : Entry) → Contains p.skip s → ¬ (matches s.spec c ≡ true)
   unfolding is_marked
-  skipped_none c unmarked_is s written speaks = both_ways (is_marked p c) unmarked_is
-      (any_from (λ (s : Entry). matches s.spec c) p.skip s written speaks)
+  skipped_none c unmarked_is s written does_match = both_ways (is_marked p c) unmarked_is
+      (any_from (λ (s : Entry). matches s.spec c) p.skip s written does_match)
 
   none_skipped : (c : Crate) → ((s : Entry) → Contains p.skip s → ¬ (matches s.spec c ≡ true)) → is_marked p c ≡ false
   unfolding is_marked
@@ -75,16 +77,16 @@ module _ (p : Policy) (g : Graph) (facts : Facts) (name : List ℕ) where
       (λ any. let one = any_passes (λ (s : Entry). matches s.spec c) p.skip any in
       none one.one one.member one.passes)
 
-  rooted_none : (c : Crate) → is_rooted p facts c ≡ false → (t : Root) → Contains p.skip_tree t
+  in_tree_none : (c : Crate) → is_in_skipped_tree p facts c ≡ false → (t : Root) → Contains p.skip_tree t
       → ¬ (facts.in_tree t c ≡ true)
-  unfolding is_rooted
-  rooted_none c rootless t written lies = both_ways (is_rooted p facts c) rootless
+  unfolding is_in_skipped_tree
+  in_tree_none c rootless t written lies = both_ways (is_in_skipped_tree p facts c) rootless
       (any_from (λ (t : Root). facts.in_tree t c) p.skip_tree t written lies)
 
-  none_rooted : (c : Crate) → ((t : Root) → Contains p.skip_tree t → ¬ (facts.in_tree t c ≡ true))
-      → is_rooted p facts c ≡ false
-  unfolding is_rooted
-  none_rooted c none = false_from_ne_true (is_rooted p facts c)
+  none_in_tree : (c : Crate) → ((t : Root) → Contains p.skip_tree t → ¬ (facts.in_tree t c ≡ true))
+      → is_in_skipped_tree p facts c ≡ false
+  unfolding is_in_skipped_tree
+  none_in_tree c none = false_from_ne_true (is_in_skipped_tree p facts c)
       (λ any. let one = any_passes (λ (t : Root). facts.in_tree t c) p.skip_tree any in
       none one.one one.member one.passes)
 
@@ -96,7 +98,7 @@ module _ (p : Policy) (g : Graph) (facts : Facts) (name : List ℕ) where
   unfolding has_name
   name_test c same = (bytes_eq-Decides c.name name).1 same
 
-  -- a crate all of whose dependents bear the name is not needed by another, and one whose dependents do not, is
+  -- a crate whose dependents all have the name is not needed by another name, and a crate with another dependent is
   needed_from : (c : Crate) → is_internal g name c ≡ false → IsNeeded g name c
   unfolding is_internal
   needed_from c outer =
@@ -131,14 +133,14 @@ module _ (p : Policy) (g : Graph) (facts : Facts) (name : List ℕ) where
 
   -- ---- crates of the group
 
-  in_named : (c : Crate) → StandsBeside p g facts name c → Contains named c
-  unfolding is_in_group may_stand
+  in_named : (c : Crate) → IsBeside p g facts name c → Contains named c
+  unfolding is_in_group may_duplicate
   in_named c is =
-      let rootless = not_from_false (is_rooted p facts c) (none_rooted c is.in_no_tree) in
-      let stands = and_from (facts.counts c) (is_marked p c || not (is_rooted p facts c)) is.counts
-      (or_right (is_marked p c) (not (is_rooted p facts c)) rootless) in
+      let rootless = not_from_false (is_in_skipped_tree p facts c) (none_in_tree c is.in_no_tree) in
+      let passed = and_from (facts.counts c) (is_marked p c || not (is_in_skipped_tree p facts c)) is.counts
+      (or_right (is_marked p c) (not (is_in_skipped_tree p facts c)) rootless) in
       Contains-filter (is_in_group p facts name) g.crates c is.known
-      (and_from (has_name name c) (may_stand p facts c) (name_test c is.named) stands)
+      (and_from (has_name name c) (may_duplicate p facts c) (name_test c is.named) passed)
     where
       or_right : (a b : Bool) → b ≡ true → (a || b) ≡ true
       or_right true b is = refl
@@ -151,7 +153,7 @@ module _ (p : Policy) (g : Graph) (facts : Facts) (name : List ℕ) where
       (λ (cs : List Crate). Contains cs c → Contains named c)
       (λ _ at. at) (λ _ at. filtered (λ (c : Crate). not (is_internal g name c)) named c at) is
 
-  pub unmarked_in_named : (c : Crate) → Contains (unmarked p g facts name) c → Contains named c
+  unmarked_in_named : (c : Crate) → Contains (unmarked p g facts name) c → Contains named c
   unmarked_in_named c is = reduced_in_named c
       (filtered (λ (c : Crate). not (is_marked p c)) (reduced p g facts name) c is)
 
@@ -162,8 +164,8 @@ module _ (p : Policy) (g : Graph) (facts : Facts) (name : List ℕ) where
     unfolding reduced
     reduced_is = cond-false (length named == 1) named (filter (λ c. not (is_internal g name c)) named) several
 
-    beside_from : (c : Crate) → Contains (unmarked p g facts name) c → StandsBeside p g facts name c
-    unfolding is_in_group may_stand
+    beside_from : (c : Crate) → Contains (unmarked p g facts name) c → IsBeside p g facts name c
+    unfolding is_in_group may_duplicate
     beside_from c is =
         let outer : Crate → Bool = λ c. not (is_internal g name c) in
         let free = not-true (is_marked p c)
@@ -171,16 +173,16 @@ module _ (p : Policy) (g : Graph) (facts : Facts) (name : List ℕ) where
         let kept = subst (λ (cs : List Crate). Contains cs c) reduced_is
         (filtered (λ (c : Crate). not (is_marked p c)) (reduced p g facts name) c is) in
         let in_group = filtered outer named c kept in
-        let test = and_parts (has_name name c) (may_stand p facts c)
+        let test = and_parts (has_name name c) (may_duplicate p facts c)
         (passes_filter (is_in_group p facts name) g.crates c in_group) in
-        let stands = and_parts (facts.counts c) (is_marked p c || not (is_rooted p facts c)) test.1 in
-        let rootless = or_second (is_marked p c) (not (is_rooted p facts c)) free stands.1 in
+        let passed = and_parts (facts.counts c) (is_marked p c || not (is_in_skipped_tree p facts c)) test.1 in
+        let rootless = or_second (is_marked p c) (not (is_in_skipped_tree p facts c)) free passed.1 in
         record {
           known = filtered (is_in_group p facts name) g.crates c in_group;
           named = name_is c test.0;
-          counts = stands.0;
+          counts = passed.0;
           not_skipped = skipped_none c free;
-          in_no_tree = rooted_none c (not-true (is_rooted p facts c) rootless);
+          in_no_tree = in_tree_none c (not-true (is_in_skipped_tree p facts c) rootless);
           needed = needed_from c (not-true (is_internal g name c) (passes_filter outer named c kept));
         }
       where
@@ -188,7 +190,7 @@ module _ (p : Policy) (g : Graph) (facts : Facts) (name : List ℕ) where
         or_second true b is either = absurd (both_ways true is refl)
         or_second false b is either = either
 
-    beside_to : (c : Crate) → StandsBeside p g facts name c → Contains (unmarked p g facts name) c
+    beside_to : (c : Crate) → IsBeside p g facts name c → Contains (unmarked p g facts name) c
     beside_to c is =
         let outer : Crate → Bool = λ c. not (is_internal g name c) in
         let kept = Contains-filter outer named c (in_named c is)
@@ -206,15 +208,15 @@ module _ (p : Policy) (g : Graph) (facts : Facts) (name : List ℕ) where
       several)
 
   pub listed_from : (crates : List Crate) → Lists version_cmp (Contains (unmarked p g facts name)) crates
-      → 2 ≤ length crates → Lists version_cmp (StandsBeside p g facts name) crates
+      → 2 ≤ length crates → Lists version_cmp (IsBeside p g facts name) crates
   listed_from crates listed several =
       let more = not_one crates listed.ascending (λ c at. unmarked_in_named c (listed.sound c at)) several in
-      lists_same version_cmp (Contains (unmarked p g facts name)) (StandsBeside p g facts name) crates listed
+      lists_same version_cmp (Contains (unmarked p g facts name)) (IsBeside p g facts name) crates listed
       (beside_from more) (beside_to more)
 
-  pub listed_to : (crates : List Crate) → Lists version_cmp (StandsBeside p g facts name) crates
+  pub listed_to : (crates : List Crate) → Lists version_cmp (IsBeside p g facts name) crates
       → 2 ≤ length crates → Lists version_cmp (Contains (unmarked p g facts name)) crates
   listed_to crates listed several =
       let more = not_one crates listed.ascending (λ c at. in_named c (listed.sound c at)) several in
-      lists_same version_cmp (StandsBeside p g facts name) (Contains (unmarked p g facts name)) crates listed
+      lists_same version_cmp (IsBeside p g facts name) (Contains (unmarked p g facts name)) crates listed
       (beside_to more) (beside_from more)

@@ -1,14 +1,14 @@
--- Where keys of builds come from that can be errors: a script that is not allowed, a script with another checksum, or a
--- file of a crate that is walked; those of another checksum come from the checksum that a policy writes.
+-- The origins of keys of builds that can be errors: a script that is not allowed, a script with another checksum, or a
+-- file of a package that is walked; those of another checksum come from the checksum that a policy writes.
 use Rattle.std.proofs.Common.{◌≡◌, ◌∙◌, ◌++◌, ◌∷◌, ℕ, Bool, true, false, List, [], Option, None, Some, ap, inl, inr}
 use Rattle.std.proofs.Common.{refl}
 use Rattle.std.specs.Prelude.{◌&&◌, Contains, is_none, map, not, if◌then◌else◌}
 use Rattle.std.specs.List.{AllByRecursion, flat_map}
 use Rattle.std.specs.Option.{option_map_or}
 use Rattle.std.proofs.lemmas.List.Elements.{Contains-append_cases}
-use Rattle.deny_lists.proofs.Each.{all_append, all_flat, all_mapped, all_from_members}
-use Rattle.deny_lists.proofs.Members.{Contains-from_flat_map, at_member, no_member}
-use Rattle.deny_lists.proofs.Finding.{found_member}
+use Rattle.deny_base_lists.proofs.Each.{all_append, all_flat, all_mapped, all_from_members}
+use Rattle.deny_base_lists.proofs.Members.{Contains-from_flat_map, at_member, no_member}
+use Rattle.deny_base_lists.proofs.Finding.{found_member}
 use Rattle.deny_base.specs.Code.{bans_have_entry, bans_rule}
 use Rattle.deny_base.specs.Rule.{Rule, OnCrates, OnWildcards, OnFeatures, OnDefaultFeatures, OnWorkspaceDependencies}
 use Rattle.deny_base.specs.Rule.{OnStdReplacements, OnBuildScripts, OnPackageFiles, OnLicenses}
@@ -18,31 +18,35 @@ use Rattle.deny_base.specs.declared.code.DiagnosticCode.TheVariants.{Bans}
 use Rattle.deny_base.specs.declared.key.Key.{Key}
 use Rattle.deny_base.specs.declared.span.Span.{Span}
 use Rattle.deny_base.specs.declared.span.Spanned.{Spanned}
-use Rattle.deny_build_model.specs.Building.{AllowedPath, Building, Bypass}
-use Rattle.deny_build_model.specs.declared.package.ExecutableKind.{ExecutableKind}
-use Rattle.deny_build_model.specs.declared.package.ExecutableKind.TheVariants.{Interpreted, Native}
-use Rattle.deny_build_model.specs.declared.package.Found.{Found}
-use Rattle.deny_build_model.specs.declared.package.Found.TheVariants.{Failed, Kind, Sum, Unasked}
-use Rattle.deny_build_model.specs.declared.package.PackageFile.{PackageFile}
-use Rattle.deny_build_model.specs.declared.package.Seen.{Seen}
-use Rattle.deny_model.specs.Graph.{Crate}
-use Rattle.deny_model.specs.Keys.{crate_key, key_of, no_span, unused_key}
-use Rattle.deny_model.specs.Policy as policy
-use Rattle.deny_codes.specs.BuildScripts.{bypass_range, has_sum, is_script_denied, is_script_right, required_enabled}
-use Rattle.deny_codes.specs.BuildScripts.{required_unknown, used, wanted_sum}
-use Rattle.deny_codes.specs.Circumstances.{Circumstances}
-use Rattle.deny_codes.specs.Facts.{Facts}
-use Rattle.deny_codes.specs.PackageFiles.{ByExtension, ByGlob, ByHeader, ByPath, BySum, Step, allows, class_by}
-use Rattle.deny_codes.specs.PackageFiles.{class_of, ChecksumMatch, ChecksumMismatch, class_by_header, class_of_kind}
-use Rattle.deny_codes.specs.PackageFiles.{fits_own, fits_script, is_decided_by, path_of, path_of_used, path_range}
-use Rattle.deny_codes.specs.PackageFiles.{step_allowed, step_by, step_of}
-use Rattle.deny_codes.specs.Packages.{Looking, build_keys, build_keys_in, checks, class_keys, denied_script_keys}
-use Rattle.deny_codes.specs.Packages.{features_enabled_keys, file_keys, folder_key, looking, package_keys, package_of}
-use Rattle.deny_codes.specs.Packages.{path_key, right_script_keys, script_keys, script_shown, sum_keys}
-use Rattle.deny_codes.specs.Packages.{unmatched_bypass_keys, unmatched_glob_keys, unmatched_keys, unmatched_path_keys}
-use Rattle.deny_codes.specs.Packages.{walked_keys, walks}
+use Rattle.deny_spec.specs.Building.{AllowedPath, Building, Bypass}
+use Rattle.deny_spec.specs.declared.package.ExecutableKind.{ExecutableKind}
+use Rattle.deny_spec.specs.declared.package.ExecutableKind.TheVariants.{Interpreted, Native}
+use Rattle.deny_spec.specs.declared.package.Found.{Found}
+use Rattle.deny_spec.specs.declared.package.Found.TheVariants.{Failed, Kind, Sum, Unasked}
+use Rattle.deny_spec.specs.declared.package.PackageFile.{PackageFile}
+use Rattle.deny_spec.specs.declared.package.Seen.{Seen}
+use Rattle.deny_spec.specs.Graph.{Crate}
+use Rattle.deny_spec.specs.Keys.{crate_key, key_of, no_span, unused_key}
+use Rattle.deny_spec.specs.Policy as policy
+use Rattle.deny_spec_report.specs.BuildScripts.{bypass_span, has_sum, is_script_denied, is_script_right}
+use Rattle.deny_spec_report.specs.BuildScripts.{required_enabled}
+use Rattle.deny_spec_report.specs.BuildScripts.{required_unknown, used, wanted_sum}
+use Rattle.deny_spec_report.specs.Circumstances.{Circumstances}
+use Rattle.deny_spec_report.specs.Facts.{Facts}
+use Rattle.deny_spec_report.specs.PackageFiles.{ByExtension, ByGlob, ByHeader, ByPath, BySum, Step, allows, class_by}
+use Rattle.deny_spec_report.specs.PackageFiles.{class_of, ChecksumMatch, ChecksumMismatch, class_by_header}
+use Rattle.deny_spec_report.specs.PackageFiles.{class_of_kind}
+use Rattle.deny_spec_report.specs.PackageFiles.{fits_own, fits_script, is_decided_by, path_of, path_of_used, path_span}
+use Rattle.deny_spec_report.specs.PackageFiles.{step_allowed, step_by, step_of}
+use Rattle.deny_spec_report.specs.Packages.{Scanning, build_keys, build_keys_in, checks, class_keys, denied_script_keys}
+use Rattle.deny_spec_report.specs.Packages.{features_enabled_keys, file_keys, folder_key, scanning, package_keys}
+use Rattle.deny_spec_report.specs.Packages.{package_of}
+use Rattle.deny_spec_report.specs.Packages.{path_key, right_script_keys, script_keys, script_shown, sum_keys}
+use Rattle.deny_spec_report.specs.Packages.{unmatched_bypass_keys, unmatched_glob_keys, unmatched_keys}
+use Rattle.deny_spec_report.specs.Packages.{unmatched_path_keys}
+use Rattle.deny_spec_report.specs.Packages.{walked_keys, walks}
 
--- codes that tell no errors
+-- codes that are never errors
 abbrev pub is_mild : Code → Bool
 is_mild d = is_none (bans_rule d)
 
@@ -57,19 +61,19 @@ is_on_files OnBuildScripts = false
 is_on_files OnPackageFiles = true
 is_on_files OnLicenses = false
 
--- those of files that do, of which no entry of the policy speaks: none of checksums
+-- codes of files that can be errors and that no entry of the policy decides; none of checksums
 abbrev pub is_of_files : Code → Bool
 is_of_files d = option_map_or is_on_files (bans_rule d) false && not (bans_have_entry d)
 
--- a checksum of a path that the bypass of a crate allows
-pub record IsPathSum (l : Looking) (c : Crate) (sum : Spanned (List ℕ)) : Type 0 where
+-- a checksum is that of a path that the bypass of a crate allows
+pub record IsPathSum (l : Scanning) (c : Crate) (sum : Spanned (List ℕ)) : Type 0 where
   pub bypass : Bypass
   pub is_used : used l.building c ≡ Some bypass
   pub allowed : AllowedPath
   pub written : Contains bypass.allow allowed
   pub is : allowed.checksum ≡ Some sum
 
-pub data Origin (l : Looking) (key : Key) : Type 0 where
+pub data Origin (l : Scanning) (key : Key) : Type 0 where
   mild : (d : Code) → key.code ≡ Bans d → is_mild d ≡ true → Origin l key
   denied : (c : Crate) → key.code ≡ Bans code.BuildScriptNotAllowed
       → is_script_denied l.building l.graph l.reached (package_of l c) c ≡ true → Origin l key
@@ -89,7 +93,7 @@ same_sum one other same = cc same
 
 -- ---- lists of keys
 
-module _ (l : Looking) where
+module _ (l : Scanning) where
   abbrev Come : List Key → Type 0
   Come keys = AllByRecursion (Origin l) keys
 
@@ -126,18 +130,20 @@ module _ (l : Looking) where
   -- ---- scripts
 
   module _ (c : Crate) (known : Contains l.graph.crates c) where
-    right_come : (range : Span) → Come (right_script_keys l c range)
+    right_come : (span : Span) → Come (right_script_keys l c span)
     unfolding right_script_keys
-    right_come range = (
-      mild_path code.ChecksumMatch c.place range (script_shown (package_of l c)) refl,
-      all_of_map (λ (w : policy.Words). crate_key code.UnknownFeature c.place w.span) (required_unknown l.building c)
+    right_come span = (
+      mild_path code.ChecksumMatch c.place span (script_shown (package_of l c)) refl,
+      all_of_map (λ (w : policy.SpannedText). crate_key code.UnknownFeature c.place w.span)
+          (required_unknown l.building c)
           (λ w. mild_crate code.UnknownFeature c.place w.span refl),
     )
 
-    enabled_come : (o : Option Bypass) (enabled : List policy.Words) → Come (features_enabled_keys c.place o enabled)
+    enabled_come : (o : Option Bypass) (enabled : List policy.SpannedText)
+        → Come (features_enabled_keys c.place o enabled)
     enabled_come None enabled = tt
     enabled_come (Some y) [] = tt
-    enabled_come (Some y) (w ∷ ws) = (mild_crate code.FeaturesEnabled c.place (bypass_range y) refl, tt)
+    enabled_come (Some y) (w ∷ ws) = (mild_crate code.FeaturesEnabled c.place (bypass_span y) refl, tt)
 
     mismatch_comes : checks l c ≡ true → (sum : Spanned (List ℕ)) → wanted_sum l.building c ≡ Some sum
         → Origin l (path_key code.ChecksumMismatch c.place sum.span (script_shown (package_of l c)))
@@ -203,13 +209,13 @@ module _ (l : Looking) where
       class_come : (step : Step) (found : Found) (shown : List ℕ)
           → ((sum : Spanned (List ℕ)) → step ≡ BySum sum → IsPathSum l c sum)
           → Come (class_keys c.place shown (class_by step found))
-      class_come (ByPath range) found shown sums = (mild_path code.PathBypassed c.place range shown refl, tt)
+      class_come (ByPath span) found shown sums = (mild_path code.PathBypassed c.place span shown refl, tt)
       class_come ByGlob found shown sums = (mild_path code.PathBypassedByGlob c.place no_span shown refl, tt)
       class_come (BySum sum) found shown sums = sums_come (has_sum sum.value found) sum shown (sums sum refl)
       class_come ByExtension found shown sums = (file_comes code.DeniedByExtension no_span shown refl, tt)
       class_come ByHeader found shown sums = header_come shown found
 
-      -- a checksum decides only where a path has it
+      -- a checksum decides only where a path has one
       by_allowed : (y : Bypass) (path : List ℕ) (a : AllowedPath) (by_glob : Bool) (sum : Spanned (List ℕ))
           → used l.building c ≡ Some y → path_of y path ≡ Some a → (o : Option (Spanned (List ℕ))) → a.checksum ≡ o
           → step_allowed a by_glob o ≡ BySum sum → IsPathSum l c sum
@@ -258,9 +264,9 @@ module _ (l : Looking) where
       unfolding unmatched_keys unmatched_path_keys unmatched_glob_keys
       unmatched_come y = all_append (Origin l) (unmatched_path_keys (package_of l c) c.place y)
           (unmatched_glob_keys (package_of l c) c.place y)
-          (all_of_map (λ (a : AllowedPath). crate_key code.UnmatchedPathBypass c.place (path_range a)) _
-          (λ a. mild_crate code.UnmatchedPathBypass c.place (path_range a) refl))
-          (all_of_map (λ (w : policy.Words). crate_key code.UnmatchedGlob c.place w.span) _
+          (all_of_map (λ (a : AllowedPath). crate_key code.UnmatchedPathBypass c.place (path_span a)) _
+          (λ a. mild_crate code.UnmatchedPathBypass c.place (path_span a) refl))
+          (all_of_map (λ (w : policy.SpannedText). crate_key code.UnmatchedGlob c.place w.span) _
           (λ w. mild_crate code.UnmatchedGlob c.place w.span refl))
 
       walked_come : Come (walked_keys l c)
@@ -281,8 +287,8 @@ module _ (l : Looking) where
 
   bypasses_come : Come (unmatched_bypass_keys l)
   unfolding unmatched_bypass_keys
-  bypasses_come = all_of_map (λ (y : Bypass). unused_key code.UnmatchedBypass (bypass_range y)) _
-      (λ y. mild_unused (bypass_range y))
+  bypasses_come = all_of_map (λ (y : Bypass). unused_key code.UnmatchedBypass (bypass_span y)) _
+      (λ y. mild_unused (bypass_span y))
 
   key_comes : (key : Key) → Contains (build_keys l) key → Origin l key
   key_comes key at = elim (Contains-append_cases (flat_map (package_keys l) l.graph.crates) (unmatched_bypass_keys l)
@@ -293,18 +299,18 @@ module _ (l : Looking) where
         | inr of_bypasses ↦ at_member (Origin l) (unmatched_bypass_keys l) key bypasses_come of_bypasses
       ]
 
--- of circumstances
+-- the origin of a key in circumstances
 pub record OriginIn (c : Circumstances) (facts : Facts) (key : Key) : Type 0 where
   pub building : Building
   pub is_said : c.building ≡ Some building
-  pub origin : Origin (looking c facts building) key
+  pub origin : Origin (scanning c facts building) key
 
 pub origin_of : (c : Circumstances) (facts : Facts) (key : Key) → Contains (build_keys_in c facts) key
     → OriginIn c facts key
 origin_of c facts key is = by c.building refl is
   where
     by : (o : Option Building) → c.building ≡ o
-        → Contains (option_map_or (λ b. build_keys (looking c facts b)) o []) key → OriginIn c facts key
+        → Contains (option_map_or (λ b. build_keys (scanning c facts b)) o []) key → OriginIn c facts key
     by None is_said is = absurd (no_member key is)
     by (Some b) is_said is =
-        record { building = b; is_said = is_said; origin = key_comes (looking c facts b) key is }
+        record { building = b; is_said = is_said; origin = key_comes (scanning c facts b) key is }

@@ -1,20 +1,20 @@
--- When an answer may come, once the policy is there.
+-- When an error may come, once the policy was read.
 use Rattle.std.proofs.Common.{◌≡◌, ℕ, List, Option, Result, Ok, Err, subst}
 use Rattle.std.specs.Prelude.{IfOk, IfErr}
 use Rattle.deny_cfg.specs.PolicyText.{IsPolicyOf}
 use Rattle.deny_cfg.specs.PolicyView.{policy_view}
 use Rattle.deny_cfg.specs.declared.policy.Policy.{Policy}
-use Rattle.deny_laws.specs.Dead.{DeadCanGo}
-use Rattle.deny_laws.specs.Asking.{PackagesStay}
-use Rattle.deny_model.specs.Policy as model
-use Rattle.deny_outside.specs.Disk.{Disk}
-use Rattle.deny_packages.specs.Why.{AreFoldersOf}
-use Rattle.deny_unread.specs.Bound.{Folders}
-use Rattle.deny_unread.specs.Causes.{AreCaused}
+use Rattle.deny_spec_removal.specs.Dead.{DeadCanGo}
+use Rattle.deny_spec_removal.specs.Asking.{PackagesStay}
+use Rattle.deny_spec.specs.Policy as model
+use Rattle.deny_base_disk.specs.Disk.{Disk}
+use Rattle.deny_build_scan.specs.Why.{AreFoldersOf}
+use Rattle.deny_base_unread.specs.Bound.{Folders}
+use Rattle.deny_base_unread.specs.Causes.{AreCaused}
 use Rattle.deny_gate.specs.Dead.{CanDoWithoutDead}
 use Rattle.deny_gate.specs.Gating.{HasGraph, IsCause, IsCausedReport, IsFirstFault}
 use Rattle.deny_gate.specs.private.Gating.{IsCauseBehind, IsMetadataCause}
-use Rattle.deny_gate.specs.Gating.{IsReportBy, IsReportOf, Texts}
+use Rattle.deny_gate.specs.Gating.{IsReportBy, IsReportOf, InputTexts}
 use Rattle.deny_gate.specs.private.Gating.{IsPolicyReport, IsTableCauseFor}
 use Rattle.deny_gate.specs.Headline.{IsHeadlineOf}
 use Rattle.deny_gate.specs.Report.{policy_id}
@@ -27,27 +27,27 @@ use Rattle.deny_gate.proofs.DeadLaws.{without_dead}
 use Rattle.deny_gate.proofs.ExitLaws.{exit_of}
 use Rattle.deny_gate.proofs.HeadlineLaws.{headline_of}
 
--- the metadata that was read has no graph, or it has one and the table is not there that a policy asks for
-pub no_graph_cause : (p : model.Policy) (texts : Texts) (metadata : List ℕ) (error : GateError)
+-- the metadata has no graph, or it has one and the table that the policy asks for is not there
+pub no_graph_cause : (p : model.Policy) (texts : InputTexts) (metadata : List ℕ) (error : GateError)
     → metadata ≡ texts.metadata → IsMetadataCause metadata error → IsCauseBehind p texts error
 no_graph_cause p texts metadata (Config faults) same cause = cause
-no_graph_cause p texts metadata (Invalid told) same cause = cause
+no_graph_cause p texts metadata (Invalid clashes) same cause = cause
 no_graph_cause p texts metadata (Metadata f) same cause = subst (λ (bytes : List ℕ). IsFirstFault bytes f) same cause
 no_graph_cause p texts metadata (Replacement at) same cause = absurd cause
 no_graph_cause p texts metadata Memory same cause = tt
 
-pub no_table_cause : (p : model.Policy) (texts : Texts) (replacements : Option (List ℕ)) (error : GateError)
+pub no_table_cause : (p : model.Policy) (texts : InputTexts) (replacements : Option (List ℕ)) (error : GateError)
     → replacements ≡ texts.replacements → HasGraph texts.metadata → IsTableCauseFor p replacements error
     → IsCauseBehind p texts error
 no_table_cause p texts replacements (Config faults) same graph cause = cause.1
-no_table_cause p texts replacements (Invalid told) same graph cause = cause.1
+no_table_cause p texts replacements (Invalid clashes) same graph cause = cause.1
 no_table_cause p texts replacements (Metadata f) same graph cause = absurd cause.1
 no_table_cause p texts replacements (Replacement at) same graph cause =
     (graph, subst (λ (table : Option (List ℕ)). IsTableCauseFor p table (Replacement at)) same cause)
 no_table_cause p texts replacements Memory same graph cause = tt
 
--- the text that was read is the policy's
-module _ (texts : Texts) (said : Policy) (read : List ℕ) (same : read ≡ texts.policy)
+-- the text that was read is that of the policy in the inputs
+module _ (texts : InputTexts) (said : Policy) (read : List ℕ) (same : read ≡ texts.policy)
     (handed : IsPolicyOf read policy_id said) where
   of_text : IsPolicyOf texts.policy policy_id said
   of_text = subst (λ (text : List ℕ). IsPolicyOf text policy_id said) same handed
@@ -58,7 +58,7 @@ module _ (texts : Texts) (said : Policy) (read : List ℕ) (same : read ≡ text
       (record { said = said; is_said = of_text; asks = cause.1.0 }, cause.0, cause.1.1)
   by_rest Memory cause = tt
   by_rest (Config faults) cause = absurd cause
-  by_rest (Invalid told) cause = absurd cause
+  by_rest (Invalid clashes) cause = absurd cause
 
   pub cause_then : (result : Result Report GateError) → IfErr result (IsCauseBehind (policy_view said.bans) texts)
       → IfErr result (IsCause texts)
@@ -76,7 +76,7 @@ module _ (texts : Texts) (said : Policy) (read : List ℕ) (same : read ≡ text
       table = on.table;
       ascending = on.seen.ascending;
       seen = on.seen.seen;
-      looked_at = on.seen.looked_at;
+      packages_seen = on.seen.packages_seen;
       is_report = on.seen.is_report;
     }
 

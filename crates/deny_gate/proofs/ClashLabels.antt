@@ -1,4 +1,4 @@
--- The labels of clashes lie in the policy's text, which is the one file.
+-- The labels of clashes lie in the policy's text, which is the only file.
 use Rattle.std.proofs.Common.{◌≡◌, ℕ, Bool, true, false, List, [], ◌∷◌, Result, Ok, Err, refl, sym, ap, subst}
 use Rattle.std.specs.Prelude.{IfErr, codes, if◌then◌else◌, map, slice_get}
 use Rattle.std.specs.List.{AllByRecursion}
@@ -7,17 +7,17 @@ use Rattle.std.proofs.lemmas.List.Elements.{All-nil, All-cons, recursion_from_Al
 use Rattle.deny_base.specs.declared.finding.Diagnostic.{Diagnostic}
 use Rattle.deny_base.specs.declared.label.Label.{Label}
 use Rattle.deny_base.specs.declared.label.LabelStyle.TheVariants.{Primary, Secondary}
-use Rattle.deny_cfg.specs.Clashes.{clash_labels, clash_told, label_of, one_label}
-use Rattle.deny_cfg.specs.LabelRanges.{told_ranges}
-use Rattle.deny_cfg.specs.PolicyText.{TellsClashes, policy_file}
+use Rattle.deny_cfg.specs.Clashes.{clash_labels, label_of, one_label, clash_diag}
+use Rattle.deny_cfg.specs.LabelSpans.{reported_spans}
+use Rattle.deny_cfg.specs.PolicyText.{ReportsClashes, policy_file}
 use Rattle.deny_cfg.specs.declared.clash.Clash.{Clash}
 use Rattle.deny_cfg.specs.declared.clash.ClashKind.{ClashKind}
 use Rattle.deny_cfg.specs.declared.clash.ClashKind.TheVariants as clash
 use Rattle.deny_cfg.proofs.Among.{lie_prefix, lie_rest}
 use Rattle.deny_cfg.proofs.LabelLaws.{Lie}
-use Rattle.deny_toml.specs.Ranges.{IsRange}
-use Rattle.deny_model.specs.Policy.{Policy}
-use Rattle.deny_gate.specs.Gating.{Texts}
+use Rattle.deny_toml.specs.Spans.{IsSpan}
+use Rattle.deny_spec.specs.Policy.{Policy}
+use Rattle.deny_gate.specs.Gating.{InputTexts}
 use Rattle.deny_gate.specs.private.Gating.{IsCauseBehind, IsPolicyCause}
 use Rattle.deny_gate.specs.Labels.{AreLabelledClashes, ArePlaced, IsLabelledCause, IsPlaced}
 use Rattle.deny_gate.specs.Report.{policy_id}
@@ -46,9 +46,9 @@ in_file clash.Extension file c = extension_in_file c.ascii file c
 in_file clash.Glob file c = (refl, tt)
 in_file clash.Path file c = (refl, tt)
 
-told_in_file : (file : ℕ) (c : Clash) → AreIn file (clash_told file c).labels
-unfolding clash_told
-told_in_file file c = in_file c.kind file c
+reported_in_file : (file : ℕ) (c : Clash) → AreIn file (clash_diag file c).labels
+unfolding clash_diag
+reported_in_file file c = in_file c.kind file c
 
 module _ (text : List ℕ) where
   labels_placed : (labels : List Label) → AreIn policy_id labels → Lie text (map (λ (label : Label). label.span) labels)
@@ -59,36 +59,38 @@ module _ (text : List ℕ) where
       (record {
         file = policy_file text;
         there = ap (slice_get (policy_file text ∷ [])) in_policy.0;
-        range = lie.0;
+        span = lie.0;
       })
       (labels_placed ls in_policy.1 lie.1)
 
-  told_placed : (cs : List Clash) → Lie text (told_ranges (map (clash_told policy_id) cs))
-      → AreLabelledClashes text (map (clash_told policy_id) cs)
-  told_placed [] lie = All-nil (λ (d : Diagnostic). ArePlaced (policy_file text ∷ []) d.labels)
-  told_placed (c ∷ cs) lie =
-      let labels = (clash_told policy_id c).labels in
+  reported_placed : (cs : List Clash) → Lie text (reported_spans (map (clash_diag policy_id) cs))
+      → AreLabelledClashes text (map (clash_diag policy_id) cs)
+  reported_placed [] lie = All-nil (λ (d : Diagnostic). ArePlaced (policy_file text ∷ []) d.labels)
+  reported_placed (c ∷ cs) lie =
+      let labels = (clash_diag policy_id c).labels in
       let first = map (λ (label : Label). label.span) labels in
-      let others = told_ranges (map (clash_told policy_id) cs) in
-      All-cons (λ (d : Diagnostic). ArePlaced (policy_file text ∷ []) d.labels) (clash_told policy_id c)
-      (map (clash_told policy_id) cs)
-      (labels_placed labels (told_in_file policy_id c) (lie_prefix text first others lie))
-      (told_placed cs (lie_rest text first others lie))
+      let others = reported_spans (map (clash_diag policy_id) cs) in
+      All-cons (λ (d : Diagnostic). ArePlaced (policy_file text ∷ []) d.labels) (clash_diag policy_id c)
+      (map (clash_diag policy_id) cs)
+      (labels_placed labels (reported_in_file policy_id c) (lie_prefix text first others lie))
+      (reported_placed cs (lie_rest text first others lie))
 
-  clashes_labelled : (told : List Diagnostic) → TellsClashes text policy_id told → AreLabelledClashes text told
-  clashes_labelled told tells =
-      let lie = recursion_from_All (IsRange text) (told_ranges told) tells.located in
-      subst (λ (ds : List Diagnostic). AreLabelledClashes text ds) (sym tells.are.is)
-      (told_placed tells.are.clashes (subst (λ (ds : List Diagnostic). Lie text (told_ranges ds)) tells.are.is lie))
+  clashes_labelled : (clashes : List Diagnostic) → ReportsClashes text policy_id clashes
+      → AreLabelledClashes text clashes
+  clashes_labelled clashes reports =
+      let lie = recursion_from_All (IsSpan text) (reported_spans clashes) reports.located in
+      subst (λ (ds : List Diagnostic). AreLabelledClashes text ds) (sym reports.are.is)
+      (reported_placed reports.are.clashes (subst (λ (ds : List Diagnostic). Lie text (reported_spans ds))
+      reports.are.is lie))
 
   cause_labelled : (error : GateError) → IsPolicyCause text error → IsLabelledCause text error
-  cause_labelled (Invalid told) cause = clashes_labelled told cause
+  cause_labelled (Invalid clashes) cause = clashes_labelled clashes cause
   cause_labelled (Config faults) cause = tt
   cause_labelled (Metadata f) cause = tt
   cause_labelled (Replacement at) cause = tt
   cause_labelled Memory cause = tt
 
--- what is handed on of the text that the inputs hold
+-- the error of a policy in the inputs has its labels in that text
 pub policy_cause_labelled : (policy text : List ℕ) (result : Result Report GateError) (error : GateError)
     → text ≡ policy → IsErrAnd result (λ e. e ≡ error) → IsPolicyCause text error
     → IfErr result (IsLabelledCause policy)
@@ -97,16 +99,16 @@ policy_cause_labelled policy text (Err handed) error same is cause =
     subst (λ (e : GateError). IsLabelledCause policy e) (sym is)
     (subst (λ (t : List ℕ). IsLabelledCause t error) same (cause_labelled text error cause))
 
--- what comes behind the policy has no clashes
-no_clash : (policy : List ℕ) (p : Policy) (texts : Texts) (error : GateError) → IsCauseBehind p texts error
+-- an error that comes behind the policy is no clash
+no_clash : (policy : List ℕ) (p : Policy) (texts : InputTexts) (error : GateError) → IsCauseBehind p texts error
     → IsLabelledCause policy error
-no_clash policy p texts (Invalid told) cause = absurd cause
+no_clash policy p texts (Invalid clashes) cause = absurd cause
 no_clash policy p texts (Config faults) cause = tt
 no_clash policy p texts (Metadata f) cause = tt
 no_clash policy p texts (Replacement at) cause = tt
 no_clash policy p texts Memory cause = tt
 
-pub cause_behind_labelled : (policy : List ℕ) (p : Policy) (texts : Texts) (result : Result Report GateError)
+pub cause_behind_labelled : (policy : List ℕ) (p : Policy) (texts : InputTexts) (result : Result Report GateError)
     → IfErr result (IsCauseBehind p texts) → IfErr result (IsLabelledCause policy)
 cause_behind_labelled policy p texts (Ok report) cause = tt
 cause_behind_labelled policy p texts (Err error) cause = no_clash policy p texts error cause

@@ -1,4 +1,4 @@
--- The dead entries that keys name: those that come to nothing by a key, and that no hit is of.
+-- The dead entries that keys name: those that a key calls unused and that have no hit.
 use Rattle.std.proofs.Common.{◌≡◌, ◌∙◌, Bool, true, false, List, Option, None, Some, ap, inl, inr, refl, subst, sym}
 use Rattle.std.specs.Prelude.{Contains, filter_map, map, option_and_then, if◌then◌else◌}
 use Rattle.std.specs.Cmp.{Equal-is, IsTotalOrder, eq_by_cmp_equiv}
@@ -6,15 +6,15 @@ use Rattle.std.specs.FinMap.{IsAntisymmetric}
 use Rattle.std.specs.Ordering.{eq_by_cmp}
 use Rattle.std.proofs.lemmas.Bool.{cases_Bool, false≢true}
 use Rattle.std.proofs.lemmas.Option.{none-some, same_Some}
-use Rattle.deny_lists.specs.Ascending.{Lists}
-use Rattle.deny_lists.proofs.Booleans.{tests_agree}
-use Rattle.deny_lists.proofs.Members.{Contains-filter_map, any_from, any_passes, contains_map, from_contains_map}
-use Rattle.deny_lists.proofs.Members.{from_filter_map}
+use Rattle.deny_base_lists.specs.Ascending.{Lists}
+use Rattle.deny_base_lists.proofs.Booleans.{tests_agree}
+use Rattle.deny_base_lists.proofs.Members.{Contains-filter_map, any_from, any_passes, contains_map, from_contains_map}
+use Rattle.deny_base_lists.proofs.Members.{from_filter_map}
 use Rattle.deny_base.specs.Entry.{entry_cmp}
 use Rattle.deny_base.specs.declared.entry.EntryId.{EntryId}
 use Rattle.deny_base.specs.declared.entry.Hit.{Hit}
 use Rattle.deny_base.specs.declared.key.Key.{Key}
-use Rattle.deny_laws.specs.Dead.{AreDead, IsDead, unused_entry}
+use Rattle.deny_spec_removal.specs.Dead.{AreDead, IsDead, unused_entry}
 use Rattle.deny_gate.specs.private.Dead.{dead_entry, is_among}
 use Rattle.deny_gate.specs.Hits.{entry_of}
 
@@ -31,19 +31,19 @@ there_is exact entries e is =
     let found = any_passes (λ other. eq_by_cmp entry_cmp other e) entries is in
     subst (Contains entries) (exact found.one e ((Equal-is (entry_cmp found.one e)).0 found.passes)) found.member
 
--- what a search answers
+-- a binary search finds an entry exactly where the list contains it
 pub search-answers : IsTotalOrder entry_cmp → IsAntisymmetric entry_cmp → (entries : List EntryId) (e : EntryId)
     (b : Bool) → (b ≡ true → Contains entries e) × (Contains entries e → b ≡ true) → b ≡ is_among entries e
 search-answers total exact entries e b answers = tests_agree b (is_among entries e)
     (λ is. is_there total entries e (answers.0 is)) (λ is. answers.1 (there_is exact entries e is))
 
--- ---- of one key
+-- ---- the dead entry of one key
 
 unless : (b : Bool) (x e : EntryId) → (if b then None else Some x) ≡ Some e → (b ≡ false) × (x ≡ e)
 unless true x e is = absurd (none-some e is)
 unless false x e is = (refl, same_Some x e is)
 
--- the key names the entry, and it is none of these
+-- a key names an entry, and the entry is not hit
 record IsNamed (hit : List EntryId) (key : Key) (e : EntryId) : Type 0 where
   named : unused_entry key ≡ Some e
   free : is_among hit e ≡ false
@@ -66,7 +66,7 @@ dead_entry_of hit key e is =
     ap (option_and_then (λ x. if is_among hit x then None else Some x)) is.named
     ∙ ap (λ (b : Bool). if b then None else Some e) is.free
 
--- ---- of all keys
+-- ---- the dead entries of all keys
 
 module _ (total : IsTotalOrder entry_cmp) (exact : IsAntisymmetric entry_cmp) (keys : List Key) (hits : List Hit) where
   free_of : (e : EntryId) → IsDead keys hits e → is_among (map entry_of hits) e ≡ false

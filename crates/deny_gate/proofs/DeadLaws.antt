@@ -2,9 +2,9 @@
 use Rattle.std.proofs.Common.{◌≡◌, ◌∙◌, ◌++◌, Bool, List, Option, None, Some, ap, subst, sym}
 use Rattle.std.specs.Prelude.{Contains, option_map}
 use Rattle.std.specs.Cmp.{IsTotalOrder, on_total}
-use Rattle.deny_lists.specs.Ascending.{Lists}
-use Rattle.deny_lists.proofs.Members.{from_contains_map}
-use Rattle.deny_lists.proofs.Sorted.{one_list}
+use Rattle.deny_base_lists.specs.Ascending.{Lists}
+use Rattle.deny_base_lists.proofs.Members.{from_contains_map}
+use Rattle.deny_base_lists.proofs.Sorted.{one_list}
 use Rattle.std.proofs.lemmas.Option.{same_Some}
 use Rattle.deny_base.specs.Entry.{entry_cmp}
 use Rattle.deny_base.specs.KeyOrder.{key_cmp}
@@ -14,28 +14,29 @@ use Rattle.deny_base.specs.declared.key.Key.{Key}
 use Rattle.deny_base.specs.declared.code.Code.TheVariants as code
 use Rattle.deny_base.specs.declared.code.DiagnosticCode.{DiagnosticCode}
 use Rattle.deny_base.specs.declared.code.DiagnosticCode.TheVariants.{Bans}
-use Rattle.deny_build_model.specs.Building.{Building}
-use Rattle.deny_model.specs.Graph.{Crate, Graph}
-use Rattle.deny_model.specs.Licensing.{Licensing}
-use Rattle.deny_outside.specs.Disk.{Files}
-use Rattle.deny_codes.specs.Circumstances.{Circumstances}
-use Rattle.deny_codes.specs.Hits.{TellsLicensed, both_hits, hits_in, licence_hits_in}
-use Rattle.deny_codes.specs.Packages.{looking}
-use Rattle.deny_codes.specs.PackagesTold.{mismatch_severity}
-use Rattle.deny_codes.specs.Standing.{AreKeys, Stands, StandsBy}
-use Rattle.deny_codes.specs.Told.{words_told}
-use Rattle.deny_laws.specs.Asking.{PackagesStay}
-use Rattle.deny_laws.specs.Dead.{AreAmong, AreDead, DeadCanGo}
-use Rattle.deny_laws.specs.Removal.{AreGone, EmptyNone, HaveNoHit, cut_building, cut_licensing, unnaming, without_in}
-use Rattle.deny_gate.specs.Dead.{CanDoWithoutDead, LosesOnly, TellsTheRest}
-use Rattle.deny_gate.specs.Gating.{IsReportOf, Texts, circumstances_of}
+use Rattle.deny_spec.specs.Building.{Building}
+use Rattle.deny_spec.specs.Graph.{Crate, Graph}
+use Rattle.deny_spec.specs.Licensing.{Licensing}
+use Rattle.deny_base_disk.specs.Disk.{Files}
+use Rattle.deny_spec_report.specs.Circumstances.{Circumstances}
+use Rattle.deny_spec_report.specs.Hits.{TestsLicensed, both_hits, hits_in, licence_hits_in}
+use Rattle.deny_spec_report.specs.Packages.{scanning}
+use Rattle.deny_spec_report.specs.PackageDiags.{mismatch_severity}
+use Rattle.deny_spec_report.specs.Holding.{AreKeys, Holds, HoldsBy}
+use Rattle.deny_spec_report.specs.Diags.{key_message}
+use Rattle.deny_spec_removal.specs.Asking.{PackagesStay}
+use Rattle.deny_spec_removal.specs.Dead.{AreAmong, AreDead, DeadCanGo}
+use Rattle.deny_spec_removal.specs.Removal.{AreGone, EmptyNone, HaveNoHit, cut_building, cut_licensing, unnaming}
+use Rattle.deny_spec_removal.specs.Removal.{without_in}
+use Rattle.deny_gate.specs.Dead.{CanDoWithoutDead, LosesOnly, ReportsTheRest}
+use Rattle.deny_gate.specs.Gating.{IsReportOf, InputTexts, circumstances_of}
 use Rattle.deny_gate.specs.Hits.{AreHits, entry_of}
-use Rattle.deny_gate.specs.Report.{IsReport, finding_told, keys_in}
+use Rattle.deny_gate.specs.Report.{IsReport, finding_for, keys_in}
 use Rattle.deny_gate.specs.Unread.{of_packages}
 use Rattle.deny_gate.specs.declared.report.Finding.{Finding}
 use Rattle.deny_gate.specs.declared.report.Report.{Report}
 use Rattle.deny_gate.proofs.BuildOrigins.{Origin, OriginIn, origin_of}
-use Rattle.deny_gate.proofs.FindingLaws.{keys_told, severity_told}
+use Rattle.deny_gate.proofs.FindingLaws.{keys_of_findings, severity_of_finding}
 use Rattle.deny_gate.proofs.OneHits.{hits_alike}
 use Rattle.deny_gate.proofs.PackagesStay.{seen_without}
 use Rattle.deny_gate.proofs.Placed.{in_place}
@@ -44,7 +45,7 @@ use Rattle.deny_gate.proofs.EachCode.{severity_alike}
 use Rattle.deny_gate.proofs.Severities.{MismatchAlike}
 use Rattle.deny_gate.proofs.SumsApart.{sums_differ}
 
--- what is dead by the hits of a report is dead by all hits, since they are the same
+-- an entry that is dead by the hits of a report is dead by all hits, since they have the same entries
 dead_by_all : (keys : List Key) (all hits : List Hit) (dead : List EntryId) → AreHits all hits → AreDead keys hits dead
     → AreDead keys all dead
 dead_by_all keys all hits dead are listed = record {
@@ -59,13 +60,13 @@ dead_by_all keys all hits dead are listed = record {
   };
 }
 
--- a test that tells which crates count for a policy's licences tells it for fewer entries
-tells_less : (o : Option Licensing) (taken : List EntryId) (g : Graph) (counts : Crate → Bool)
-    → TellsLicensed o g counts → TellsLicensed (option_map (cut_licensing taken) o) g counts
-tells_less None taken g counts tells = tt
-tells_less (Some l) taken g counts tells = tells
+-- a test of which crates count for a policy's licences is one for fewer entries too
+reports_less : (o : Option Licensing) (taken : List EntryId) (g : Graph) (counts : Crate → Bool)
+    → TestsLicensed o g counts → TestsLicensed (option_map (cut_licensing taken) o) g counts
+reports_less None taken g counts reports = tt
+reports_less (Some l) taken g counts reports = reports
 
--- nothing hits what is dead
+-- a dead entry has no hit
 no_hit : (c : Circumstances) (taken : List EntryId) (report : Report) (is : IsReport c report)
     → AreAmong report.dead taken → HaveNoHit (both_hits c is.listed.facts is.counts) taken
 no_hit c taken report is among e at h hit same = ((dead_by_all is.keys (both_hits c is.listed.facts is.counts)
@@ -74,75 +75,76 @@ no_hit c taken report is among e at h hit same = ((dead_by_all is.keys (both_hit
 module _ (law : DeadCanGo) (c : Circumstances) (taken : List EntryId) (report : Report) (is : IsReport c report)
     (among : AreAmong report.dead taken) (kept : EmptyNone c.policy taken) where
   keys_are : keys_in report.findings ≡ is.keys
-  keys_are = ap keys_in is.told ∙ keys_told c is.keys
+  keys_are = ap keys_in is.findings ∙ keys_of_findings c is.keys
 
   gone : AreGone c (without_in c taken) is.listed.facts taken is.keys
-  gone = law c is.listed.facts is.counts is.keys report.dead taken is.listed.true_facts is.tells is.listed.listed
+  gone = law c is.listed.facts is.counts is.keys report.dead taken is.listed.true_facts is.reports is.listed.listed
       (dead_by_all is.keys (both_hits c is.listed.facts is.counts) report.hits report.dead is.hits is.dead) among kept
 
   hits_stay : both_hits c is.listed.facts is.counts ≡ both_hits (without_in c taken) is.listed.facts is.counts
   hits_stay = sym
       (ap (λ (hits : List Hit). hits ++ licence_hits_in is.counts (without_in c taken)) gone.hits
-      ∙ ap (λ (hits : List Hit). hits_in c is.listed.facts ++ hits) (gone.licence_hits is.counts is.tells))
+      ∙ ap (λ (hits : List Hit). hits_in c is.listed.facts ++ hits) (gone.licence_hits is.counts is.reports))
 
   rest_keys : AreKeys (without_in c taken) (unnaming taken (keys_in report.findings))
   rest_keys = record {
     facts = is.listed.facts;
     true_facts = gone.facts_hold;
-    listed = subst (λ (keys : List Key). Lists key_cmp (Stands (without_in c taken) is.listed.facts)
+    listed = subst (λ (keys : List Key). Lists key_cmp (Holds (without_in c taken) is.listed.facts)
         (unnaming taken keys)) (sym keys_are) gone.listed;
   }
 
-  -- and so a report of the policy without them
+  -- a report of the policy without dead entries loses only what names them as unused
   pub loses_only : IsTotalOrder entry_cmp
       → ((d : Circumstances) → (xs ys : List Key) → AreKeys d xs → AreKeys d ys → xs ≡ ys)
       → (other : Report) → IsReport (without_in c taken) other → LosesOnly taken report other
   loses_only total one other that = record {
-    keys = (ap keys_in that.told ∙ keys_told (without_in c taken) that.keys)
+    keys = (ap keys_in that.findings ∙ keys_of_findings (without_in c taken) that.keys)
         ∙ one (without_in c taken) that.keys (unnaming taken (keys_in report.findings)) that.listed rest_keys;
     hits = one_list (on_total entry_of total) other.hits report.hits that.hits
         (subst (λ (all : List Hit). AreHits all report.hits)
         (hits_stay ∙ hits_alike (without_in c taken) is.listed.facts that.listed.facts is.counts that.counts
-        gone.facts_hold that.listed.true_facts (tells_less c.licensing taken c.graph is.counts is.tells) that.tells)
+        gone.facts_hold that.listed.true_facts (reports_less c.licensing taken c.graph is.counts is.reports)
+        that.reports)
         is.hits);
   }
 
-  -- ---- at the severities of the report
+  -- ---- the severities of the report
 
   module _ (stay : PackagesStay) (differ : (b : Building) → c.building ≡ Some b → SumsDiffer b) where
     mismatch_by : (key : Key) (b : Building) → c.building ≡ Some b → key.code ≡ Bans code.ChecksumMismatch
         → OriginIn c is.listed.facts key → mismatch_severity (cut_building taken b) key ≡ mismatch_severity b key
     mismatch_by key b said coded of =
         let one : of.building ≡ b = same_Some of.building b (sym of.is_said ∙ said) in
-        mismatch_alike (looking c is.listed.facts b) taken (stay c is.listed.facts is.counts taken
+        mismatch_alike (scanning c is.listed.facts b) taken (stay c is.listed.facts is.counts taken
         (no_hit c taken report is among) b said)
         (differ b said) key coded
-        (subst (λ (x : Building). Origin (looking c is.listed.facts x) key) one of.origin)
+        (subst (λ (x : Building). Origin (scanning c is.listed.facts x) key) one of.origin)
 
     mismatches : (key : Key) → Contains is.keys key → MismatchAlike c taken key
     mismatches key at coded b said = mismatch_by key b said coded (origin_of c is.listed.facts key
-        (subst (λ (d : DiagnosticCode). StandsBy d c is.listed.facts key) coded (is.listed.listed.sound key at)))
+        (subst (λ (d : DiagnosticCode). HoldsBy d c is.listed.facts key) coded (is.listed.listed.sound key at)))
 
     same_severity : (f : Finding) → Contains report.findings f
-        → (words_told (without_in c taken) f.diag.key).severity ≡ f.diag.diag.severity
+        → (key_message (without_in c taken) f.diag.key).severity ≡ f.diag.diag.severity
     same_severity f at =
-        let from = from_contains_map (finding_told c) is.keys f
-        (subst (λ (fs : List Finding). Contains fs f) is.told at)
-        in subst (λ (g : Finding). (words_told (without_in c taken) g.diag.key).severity ≡ g.diag.diag.severity) from.2
-        (severity_told c (without_in c taken) from.0
+        let from = from_contains_map (finding_for c) is.keys f
+        (subst (λ (fs : List Finding). Contains fs f) is.findings at)
+        in subst (λ (g : Finding). (key_message (without_in c taken) g.diag.key).severity ≡ g.diag.diag.severity) from.2
+        (severity_of_finding c (without_in c taken) from.0
         (severity_alike c taken from.0 (mismatches from.0 from.1)))
 
-    pub tells_the_rest : TellsTheRest c taken report
+    reports_the_rest : ReportsTheRest c taken report
     unfolding rest_keys
-    tells_the_rest = record {
+    reports_the_rest = record {
       keys = rest_keys;
       severities = same_severity;
       counts = is.counts;
-      tells = tells_less c.licensing taken c.graph is.counts is.tells;
+      reports = reports_less c.licensing taken c.graph is.counts is.reports;
       hits = subst (λ (all : List Hit). AreHits all report.hits) hits_stay is.hits;
     }
 
-pub without_dead : DeadCanGo → PackagesStay → (told : Option Files) (texts : Texts) (report : Report)
+pub without_dead : DeadCanGo → PackagesStay → (told : Option Files) (texts : InputTexts) (report : Report)
     → IsReportOf told texts report → CanDoWithoutDead told texts report
 without_dead law stay told texts report of =
     let by = of.by in
@@ -151,9 +153,9 @@ without_dead law stay told texts report of =
       view = of.view;
       packages = of.packages;
       by = by;
-      can = λ taken among kept. tells_the_rest law c taken report is among kept stay
+      can = λ taken among kept. reports_the_rest law c taken report is among kept stay
           (sums_differ texts.policy by.said by.is_said);
       sees = λ taken among. seen_without stay told c is.listed.facts is.counts taken texts.home
           (of_packages report.unread) is.listed.true_facts (in_place texts.metadata by.graph by.is_graph)
-          (no_hit c taken report is among) by.looked_at;
+          (no_hit c taken report is among) by.packages_seen;
     }

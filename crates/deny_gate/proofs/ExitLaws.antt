@@ -12,23 +12,23 @@ use Rattle.deny_base.specs.declared.code.DiagnosticCode.TheVariants.{Deprecated,
 use Rattle.deny_base.specs.declared.key.Key.{Key}
 use Rattle.deny_base.specs.declared.level.Severity.{Severity}
 use Rattle.deny_base.specs.declared.level.Severity.TheVariants as severity
-use Rattle.deny_lists.proofs.Agreement.{list_any_on}
-use Rattle.deny_lists.proofs.Filters.{some-filter}
-use Rattle.deny_lists.proofs.Members.{Contains-first, Contains-rest}
-use Rattle.deny_model.specs.Licensing.{Licensing}
-use Rattle.deny_outside.specs.Disk.{Files}
-use Rattle.deny_codes.specs.Circumstances.{Circumstances}
-use Rattle.deny_codes.specs.Facts.{Facts}
-use Rattle.deny_codes.specs.Standing.{Stands, StandsBy}
-use Rattle.deny_codes.specs.Told.{check_told}
-use Rattle.deny_gate.specs.Gating.{IsReportOf, Texts, circumstances_of}
-use Rattle.deny_gate.specs.Report.{IsReport, fails_as, finding_told, has_error, is_error, verdict_by, verdict_of}
+use Rattle.deny_base_lists.proofs.Agreement.{list_any_on}
+use Rattle.deny_base_lists.proofs.Filters.{some-filter}
+use Rattle.deny_base_lists.proofs.Members.{Contains-first, Contains-rest}
+use Rattle.deny_spec.specs.Licensing.{Licensing}
+use Rattle.deny_base_disk.specs.Disk.{Files}
+use Rattle.deny_spec_report.specs.Circumstances.{Circumstances}
+use Rattle.deny_spec_report.specs.Facts.{Facts}
+use Rattle.deny_spec_report.specs.Holding.{Holds, HoldsBy}
+use Rattle.deny_spec_report.specs.Diags.{check_of_code}
+use Rattle.deny_gate.specs.Gating.{IsReportOf, InputTexts, circumstances_of}
+use Rattle.deny_gate.specs.Report.{IsReport, fails_as, finding_for, has_error, is_error, verdict_by, verdict_of}
 use Rattle.deny_gate.specs.Stats.{all_stats, bit_of, code_of, counts_as, exit_code, number_of, same_check}
 use Rattle.deny_gate.specs.Stats.{same_severity, stats_of}
 use Rattle.deny_gate.specs.declared.report.Finding.{Finding}
 use Rattle.deny_gate.specs.declared.report.Report.{Report}
 use Rattle.deny_gate.specs.declared.stats.AllStats.{AllStats}
-use Rattle.deny_gate.proofs.Standing.{none_licensed}
+use Rattle.deny_gate.proofs.FindingKeys.{none_licensed}
 
 -- ---- a check has errors exactly where its count of errors is not 0
 
@@ -70,32 +70,32 @@ licence_bit true fs none = bit_is 4 check.Licenses fs
 licence_bit false fs none = ap (λ (b : Bool). if b then 4 else 0) (sym (none refl))
 
 of_bans : (d : DiagnosticCode) (c : Circumstances) (facts : Facts) (key : Key) → c.licensing ≡ None
-    → StandsBy d c facts key → same_check (check_told d) check.Licenses ≡ false
+    → HoldsBy d c facts key → same_check (check_of_code d) check.Licenses ≡ false
 of_bans Deprecated c facts key none is = refl
 of_bans (Bans d) c facts key none is = refl
 of_bans (License d) c facts key none is = absurd (none_licensed d c.licensing c.graph key none is)
 
-passes_licences : (c : Circumstances) (facts : Facts) (key : Key) → c.licensing ≡ None → Stands c facts key
-    → fails_as check.Licenses (finding_told c key) ≡ false
-unfolding fails_as finding_told
+passes_licences : (c : Circumstances) (facts : Facts) (key : Key) → c.licensing ≡ None → Holds c facts key
+    → fails_as check.Licenses (finding_for c key) ≡ false
+unfolding fails_as finding_for
 passes_licences c facts key none is =
-    and_right (has_error (finding_told c key)) (same_check (check_told key.code) check.Licenses)
+    and_right (has_error (finding_for c key)) (same_check (check_of_code key.code) check.Licenses)
     (of_bans key.code c facts key none is)
 
 no_licence_fails : (c : Circumstances) (facts : Facts) (keys : List Key) → c.licensing ≡ None
-    → ((key : Key) → Contains keys key → Stands c facts key)
-    → list_any (fails_as check.Licenses) (map (finding_told c) keys) ≡ false
-no_licence_fails c facts [] none stand = refl
-no_licence_fails c facts (key ∷ keys) none stand =
-    ap (λ (b : Bool). b || list_any (fails_as check.Licenses) (map (finding_told c) keys))
-    (passes_licences c facts key none (stand key (Contains-first key keys)))
-    ∙ no_licence_fails c facts keys none (λ k at. stand k (Contains-rest key keys k at))
+    → ((key : Key) → Contains keys key → Holds c facts key)
+    → list_any (fails_as check.Licenses) (map (finding_for c) keys) ≡ false
+no_licence_fails c facts [] none hold = refl
+no_licence_fails c facts (key ∷ keys) none hold =
+    ap (λ (b : Bool). b || list_any (fails_as check.Licenses) (map (finding_for c) keys))
+    (passes_licences c facts key none (hold key (Contains-first key keys)))
+    ∙ no_licence_fails c facts keys none (λ k at. hold k (Contains-rest key keys k at))
 
-unsaid : (licensing : Option Licensing) → is_some licensing ≡ false → licensing ≡ None
-unsaid None none = refl
-unsaid (Some l) none = absurd (false≢true (sym none))
+no_licensing : (licensing : Option Licensing) → is_some licensing ≡ false → licensing ≡ None
+no_licensing None none = refl
+no_licensing (Some l) none = absurd (false≢true (sym none))
 
--- ---- together
+-- ---- the exit code
 
 abbrev code_by : ℕ → Option ℤ
 code_by bits = if bits == 0 then None else Some (pos bits)
@@ -119,12 +119,12 @@ by_counts has fs none =
 code_in : (c : Circumstances) (report : Report) → IsReport c report → exit_code report.stats ≡ code_of report.verdict
 code_in c report is =
     let pass : is_some c.licensing ≡ false → list_any (fails_as check.Licenses) report.findings ≡ false =
-    λ none. subst (λ (fs : List Finding). list_any (fails_as check.Licenses) fs ≡ false) (sym is.told)
-    (no_licence_fails c is.listed.facts is.keys (unsaid c.licensing none) is.listed.listed.sound) in
+    λ none. subst (λ (fs : List Finding). list_any (fails_as check.Licenses) fs ≡ false) (sym is.findings)
+    (no_licence_fails c is.listed.facts is.keys (no_licensing c.licensing none) is.listed.listed.sound) in
     ap (λ (s : AllStats). exit_code s) is.stats
     ∙ (by_counts (is_some c.licensing) report.findings pass ∙ ap code_of (sym is.verdict))
 
-pub exit_of : (told : Option Files) (texts : Texts) (report : Report) → IsReportOf told texts report
+pub exit_of : (told : Option Files) (texts : InputTexts) (report : Report) → IsReportOf told texts report
     → exit_code report.stats ≡ code_of report.verdict
 exit_of told texts report of =
     let by = of.by in

@@ -1,4 +1,4 @@
--- The findings of packs that tell keys, and the hits: those of the bans check, and then those of the licence check.
+-- The findings of packs by their keys, and the hits: those of the bans check, and then those of the licence check.
 use Rattle.std.proofs.Common.{◌≡◌, ◌++◌, ℕ, Bool, false, List, [], ◌∷◌, Option, None, Some, refl, sym, ap, subst, ◌∙◌}
 use Rattle.std.specs.Prelude.{filter, is_some, map}
 use Rattle.std.specs.List.{flat_map}
@@ -10,111 +10,112 @@ use Rattle.deny_base.specs.declared.entry.Hit.{Hit}
 use Rattle.deny_base.specs.declared.files.File.{File}
 use Rattle.deny_base.specs.declared.finding.Pack.{Pack}
 use Rattle.deny_base.specs.declared.key.Key.{Key}
-use Rattle.deny_lists.specs.Ascending.{Lists}
-use Rattle.deny_lists.proofs.Agreement.{filter_on, map_on}
-use Rattle.deny_lists.proofs.Filters.{filter-none}
-use Rattle.deny_lists.proofs.Members.{no_member}
-use Rattle.deny_lists.proofs.Options.{is_some-option_map}
-use Rattle.deny_lists.proofs.Equalities.{subst₃}
+use Rattle.deny_base_lists.specs.Ascending.{Lists}
+use Rattle.deny_base_lists.proofs.Agreement.{filter_on, map_on}
+use Rattle.deny_base_lists.proofs.Filters.{filter-none}
+use Rattle.deny_base_lists.proofs.Members.{no_member}
+use Rattle.deny_base_lists.proofs.Options.{is_some-option_map}
+use Rattle.deny_base_lists.proofs.Equalities.{subst₃}
 use Rattle.deny_cfg.specs.LicensingView.{licensing_of, licensing_view}
 use Rattle.deny_cfg.specs.PolicyText.{policy_files}
 use Rattle.deny_cfg.specs.PolicyView.{AreGlobsRead, building_of, builtin_file_of, policy_view}
 use Rattle.deny_cfg.specs.declared.policy.Policy as cfg
 use Rattle.deny_krates.specs.Read.{IsGraphOf}
-use Rattle.deny_model.specs.Graph.{Crate, Graph}
-use Rattle.deny_model.specs.Licensing.{Licensing}
-use Rattle.deny_model.specs.View.{View}
-use Rattle.deny_build_model.specs.declared.package.Package.{Package}
-use Rattle.deny_outside.specs.Disk.{Disk}
+use Rattle.deny_spec.specs.Graph.{Crate, Graph}
+use Rattle.deny_spec.specs.Licensing.{Licensing}
+use Rattle.deny_spec.specs.View.{View}
+use Rattle.deny_spec.specs.declared.package.Package.{Package}
+use Rattle.deny_base_disk.specs.Disk.{Disk}
 use Rattle.deny_rules.specs.Packages.{AreSeenBy, HaveCauses}
-use Rattle.deny_spans.specs.Ranges.{ViewLies}
+use Rattle.deny_spans.specs.Spans.{ViewLies}
 use Rattle.deny_spans.specs.Seen.{IsSeen, lock_file}
-use Rattle.deny_unread.specs.Unread.{unread_cmp}
-use Rattle.deny_unread.specs.declared.unread.Unread.{Unread}
-use Rattle.deny_codes.specs.Circumstances.{Circumstances, built, licensed, seen_by, tabled, with_packages}
-use Rattle.deny_codes.specs.Codes.{is_of_bans, is_of_licenses}
-use Rattle.deny_codes.specs.Facts.{Facts}
-use Rattle.deny_codes.specs.Hits.{TellsLicensed, both_hits, hits_in, licence_hits_in}
-use Rattle.deny_codes.specs.Saying.{bytes_of, said_by}
-use Rattle.deny_codes.specs.Standing.{ListsOwn, Stands, StandsIn}
-use Rattle.deny_codes.specs.Told.{diag_of, pack_of, pack_told, words_told}
-use Rattle.deny_dup_edges.specs.DupEdges.{ShowsEach, is_of_duplicate}
+use Rattle.deny_base.specs.Unread.{unread_cmp}
+use Rattle.deny_base.specs.declared.unread.Unread.{Unread}
+use Rattle.deny_spec_report.specs.Circumstances.{Circumstances, built, licensed, seen_by, tabled, with_packages}
+use Rattle.deny_spec_report.specs.Codes.{is_of_bans, is_of_licenses}
+use Rattle.deny_spec_report.specs.Facts.{Facts}
+use Rattle.deny_spec_report.specs.Hits.{TestsLicensed, both_hits, hits_in, licence_hits_in}
+use Rattle.deny_spec_report.specs.Saying.{bytes_of, said_by}
+use Rattle.deny_spec_report.specs.Holding.{ListsOwn, Holds, HoldsIn}
+use Rattle.deny_spec_report.specs.Diags.{diag_of, pack_of, key_pack, key_message}
+use Rattle.deny_rules_dup_edges.specs.DupEdges.{ShowsEach, is_of_duplicate}
 use Rattle.deny_rules.specs.Check.{IsChecked}
 use Rattle.deny_rules.specs.declared.check.BansEnd.{BansEnd}
-use Rattle.deny_dup_edges.specs.declared.dup_edges.DupEdges.{DupEdges}
-use Rattle.deny_laws.specs.Dead.{AreDead}
+use Rattle.deny_rules_dup_edges.specs.declared.dup_edges.DupEdges.{DupEdges}
+use Rattle.deny_spec_removal.specs.Dead.{AreDead}
 use Rattle.deny_gate.specs.private.Gating.{AreEntriesApart, Extras, IsLicensedIf, IsPolicyReport, IsReportSeen}
 use Rattle.deny_gate.specs.Gating.{IsTableFor}
-use Rattle.deny_gate.specs.private.Gating.{IsTold}
-use Rattle.deny_gate.specs.Gating.{Texts, circumstances_of, first_files}
-use Rattle.deny_gate.specs.private.Gating.{IsToldOn, extras_of}
+use Rattle.deny_gate.specs.private.Gating.{AreResults}
+use Rattle.deny_gate.specs.Gating.{InputTexts, circumstances_of, first_files}
+use Rattle.deny_gate.specs.private.Gating.{AreGraphResults, extras_of}
 use Rattle.deny_gate.specs.Hits.{AreHits}
 use Rattle.deny_gate.specs.private.Hits.{IsOneEach}
-use Rattle.deny_gate.specs.Report.{finding_told, keys_in, lock_id, policy_id, verdict_of}
+use Rattle.deny_gate.specs.Report.{finding_for, keys_in, lock_id, policy_id, verdict_of}
 use Rattle.deny_gate.specs.private.Report.{findings_of}
 use Rattle.deny_gate.specs.Stats.{all_stats}
 use Rattle.deny_gate.specs.Unread.{of_manifests, of_packages}
-use Rattle.deny_gate.specs.declared.checks.Looked.{Looked}
-use Rattle.deny_gate.specs.declared.checks.Told.{Told}
+use Rattle.deny_gate.specs.declared.checks.GraphResults.{GraphResults}
+use Rattle.deny_gate.specs.declared.checks.CheckResults.{CheckResults}
 use Rattle.deny_gate.specs.declared.report.Finding.{Finding}
 use Rattle.deny_gate.specs.declared.report.Report.{Report}
 use Rattle.deny_gate.proofs.HitsApart.{hits_apart}
-use Rattle.deny_gate.proofs.Standing.{no_duplicate, none_of_licences}
+use Rattle.deny_gate.proofs.FindingKeys.{no_duplicate, none_of_licences}
 
--- the finding of what is handed out for a key
-one_each : (c : Circumstances) (key : Key) → findings_of (pack_told c key) ≡ finding_told c key ∷ []
-unfolding findings_of pack_of finding_told
+-- the pack of a key gives one finding
+one_each : (c : Circumstances) (key : Key) → findings_of (key_pack c key) ≡ finding_for c key ∷ []
+unfolding findings_of pack_of finding_for
 one_each c key = refl
 
-all_told : (c : Circumstances) (keys : List Key)
-    → flat_map findings_of (map (pack_told c) keys) ≡ map (finding_told c) keys
-all_told c [] = refl
-all_told c (key ∷ keys) =
-    ap (λ (fs : List Finding). fs ++ flat_map findings_of (map (pack_told c) keys)) (one_each c key)
-    ∙ ap (λ (fs : List Finding). finding_told c key ∷ fs) (all_told c keys)
+findings_of_packs : (c : Circumstances) (keys : List Key)
+    → flat_map findings_of (map (key_pack c) keys) ≡ map (finding_for c) keys
+findings_of_packs c [] = refl
+findings_of_packs c (key ∷ keys) =
+    ap (λ (fs : List Finding). fs ++ flat_map findings_of (map (key_pack c) keys)) (one_each c key)
+    ∙ ap (λ (fs : List Finding). finding_for c key ∷ fs) (findings_of_packs c keys)
 
--- what is told of a key is told under it
-pub key_told : (c : Circumstances) (key : Key) → (finding_told c key).diag.key ≡ key
-unfolding finding_told diag_of
-key_told c key = refl
+-- the finding of a key has that key
+pub key_of_finding : (c : Circumstances) (key : Key) → (finding_for c key).diag.key ≡ key
+unfolding finding_for diag_of
+key_of_finding c key = refl
 
-pub keys_told : (c : Circumstances) (keys : List Key) → keys_in (map (finding_told c) keys) ≡ keys
-keys_told c [] = refl
-keys_told c (key ∷ keys) = ap (λ (k : Key). k ∷ keys_in (map (finding_told c) keys)) (key_told c key)
-    ∙ ap (λ (ks : List Key). key ∷ ks) (keys_told c keys)
+pub keys_of_findings : (c : Circumstances) (keys : List Key) → keys_in (map (finding_for c) keys) ≡ keys
+keys_of_findings c [] = refl
+keys_of_findings c (key ∷ keys) = ap (λ (k : Key). k ∷ keys_in (map (finding_for c) keys)) (key_of_finding c key)
+    ∙ ap (λ (ks : List Key). key ∷ ks) (keys_of_findings c keys)
 
--- and by words of one severity at that severity
-pub severity_told : (c d : Circumstances) (key : Key) → (words_told d key).severity ≡ (words_told c key).severity
-    → (words_told d (finding_told c key).diag.key).severity ≡ (finding_told c key).diag.diag.severity
-unfolding finding_told diag_of
-severity_told c d key same = same
+-- findings whose messages have one severity have that severity
+pub severity_of_finding : (c d : Circumstances) (key : Key) → (key_message d key).severity
+    ≡ (key_message c key).severity
+    → (key_message d (finding_for c key).diag.key).severity ≡ (finding_for c key).diag.diag.severity
+unfolding finding_for diag_of
+severity_of_finding c d key same = same
 
--- what is known of the two checks
+-- the laws on the two checks
 pub record CheckLaws : Type 0 where
-  pub stands : (c : Circumstances) → (licensing : Option Licensing) → (facts : Facts) → (keys : List Key)
+  pub keys : (c : Circumstances) → (licensing : Option Licensing) → (facts : Facts) → (keys : List Key)
       → ListsOwn is_of_bans c facts keys → ListsOwn is_of_bans (licensed c licensing) facts keys
-  pub told : (c : Circumstances) → (licensing : Option Licensing) → (facts : Facts) → (key : Key)
-      → StandsIn is_of_bans c facts key → pack_told (licensed c licensing) key ≡ pack_told c key
+  pub packs : (c : Circumstances) → (licensing : Option Licensing) → (facts : Facts) → (key : Key)
+      → HoldsIn is_of_bans c facts key → key_pack (licensed c licensing) key ≡ key_pack c key
   pub joined : (c : Circumstances) → (facts : Facts) → (xs ys : List Key) → ListsOwn is_of_bans c facts xs
-      → ListsOwn is_of_licenses c facts ys → Lists key_cmp (Stands c facts) (xs ++ ys)
+      → ListsOwn is_of_licenses c facts ys → Lists key_cmp (Holds c facts) (xs ++ ys)
 
--- what the licence check tells, key by key, and what it finds hit
+-- the packs that the licence check adds, key by key, and its hits
 record LicenceKeys (c : Circumstances) (facts : Facts) (old new : List Pack) (hits : List Hit) : Type 0 where
   keys : List Key
   listed : ListsOwn is_of_licenses c facts keys
-  told : new ≡ old ++ map (pack_told c) keys
+  packs : new ≡ old ++ map (key_pack c) keys
   counts : Crate → Bool
-  tells : TellsLicensed c.licensing c.graph counts
+  reports : TestsLicensed c.licensing c.graph counts
   hits_are : hits ≡ licence_hits_in counts c
 
--- of the keys of the licence check none is of a duplicate
+-- no key of the licence check is of a duplicate
 no_duplicates : (c : Circumstances) (facts : Facts) (keys : List Key) → ListsOwn is_of_licenses c facts keys
     → filter is_of_duplicate keys ≡ []
 no_duplicates c facts keys listed =
     filter_on is_of_duplicate (λ (key : Key). false) keys (λ key at. no_duplicate c facts key (listed.sound key at))
     ∙ filter-none (λ (key : Key). false) keys (λ key. refl)
 
--- so duplicates are shown of the keys of the bans check alone
+-- duplicates are shown of the keys of the bans check alone
 shown_of_all : (c : Circumstances) (facts : Facts) (bans licences : List Key) (shown : List DupEdges)
     → ListsOwn is_of_licenses c facts licences
     → ShowsEach c.policy c.graph (filter is_of_duplicate bans) shown
@@ -125,7 +126,7 @@ shown_of_all c facts bans licences shown listed each =
     ∙ (ap (λ (keys : List Key). filter is_of_duplicate bans ++ keys) (no_duplicates c facts licences listed)
     ∙ append-nil (filter is_of_duplicate bans)))) each
 
--- without licences nothing stands in the sections of the licence check
+-- without a section on licences no key of the licence check holds
 none_listed : (c : Circumstances) (facts : Facts) → c.licensing ≡ None → ListsOwn is_of_licenses c facts []
 unfolding IsStrictlySortedBy
 none_listed c facts none = record {
@@ -141,17 +142,17 @@ licence_keys : (c : Circumstances) (licensing : Option Licensing) (facts : Facts
 licence_keys c None facts old new hits same = record {
   keys = [];
   listed = none_listed (licensed c None) facts refl;
-  told = same.0 ∙ sym (append-nil old);
+  packs = same.0 ∙ sym (append-nil old);
   counts = λ k. false;
-  tells = tt;
+  reports = tt;
   hits_are = same.1;
 }
 licence_keys c (Some l) facts old new hits of = record {
   keys = of.keys;
   listed = of.listed c facts;
-  told = of.told c;
+  packs = of.told c;
   counts = of.counts;
-  tells = of.tells;
+  reports = of.reports;
   hits_are = of.hits_are;
 }
 
@@ -162,26 +163,27 @@ checked_by said g table file lock view packages =
     (builtin_file_of said.bans) packages) table
 
 module _ (laws : CheckLaws) where
-  -- findings of packs that the bans check put behind none, and the licence check behind these, and the hits of both
-  told_by : (c : Circumstances) (licensing : Option Licensing) (none between packs : List Pack) (end : BansEnd)
-      (others : List Hit) (told : Told) → IsChecked c none between end → none ≡ []
+  -- the results of both checks: the packs of the bans check, put behind none, and those of the licence check behind
+  -- these
+  results_of_both : (c : Circumstances) (licensing : Option Licensing) (none between packs : List Pack) (end : BansEnd)
+      (others : List Hit) (results : CheckResults) → IsChecked c none between end → none ≡ []
       → IsLicensedIf licensing c.graph c.files.policy between packs others
-      → AreHits (end.hits ++ others) told.hits → told.findings ≡ flat_map findings_of packs
-      → told.dup_edges ≡ end.dup_edges → IsTold (licensed c licensing) told
-  told_by c licensing none between packs end others told checked empty tells hit are shown =
+      → AreHits (end.hits ++ others) results.hits → results.findings ≡ flat_map findings_of packs
+      → results.dup_edges ≡ end.dup_edges → AreResults (licensed c licensing) results
+  results_of_both c licensing none between packs end others results checked empty reports hit are shown =
       let all = licensed c licensing in
       let facts = checked.listed.facts in
-      let more = licence_keys c licensing facts between packs others tells in
+      let more = licence_keys c licensing facts between packs others reports in
       let bans : ListsOwn is_of_bans all facts checked.keys =
-      laws.stands c licensing facts checked.keys checked.listed.listed in
-      let alike : map (pack_told c) checked.keys ≡ map (pack_told all) checked.keys =
-      map_on (pack_told c) (pack_told all) checked.keys
-      (λ key at. sym (laws.told c licensing facts key (checked.listed.listed.sound key at))) in
-      let first : between ≡ map (pack_told all) checked.keys =
-      checked.told ∙ (ap (λ (ps : List Pack). ps ++ map (pack_told c) checked.keys) empty ∙ alike) in
-      let together : packs ≡ map (pack_told all) (checked.keys ++ more.keys) =
-      more.told ∙ (ap (λ (ps : List Pack). ps ++ map (pack_told all) more.keys) first
-      ∙ sym (map-append (pack_told all) checked.keys more.keys)) in
+      laws.keys c licensing facts checked.keys checked.listed.listed in
+      let alike : map (key_pack c) checked.keys ≡ map (key_pack all) checked.keys =
+      map_on (key_pack c) (key_pack all) checked.keys
+      (λ key at. sym (laws.packs c licensing facts key (checked.listed.listed.sound key at))) in
+      let first : between ≡ map (key_pack all) checked.keys =
+      checked.reported ∙ (ap (λ (ps : List Pack). ps ++ map (key_pack c) checked.keys) empty ∙ alike) in
+      let together : packs ≡ map (key_pack all) (checked.keys ++ more.keys) =
+      more.packs ∙ (ap (λ (ps : List Pack). ps ++ map (key_pack all) more.keys) first
+      ∙ sym (map-append (key_pack all) checked.keys more.keys)) in
       let hits : end.hits ++ others ≡ both_hits all facts more.counts =
       ap (λ (hs : List Hit). hs ++ others) checked.hits
       ∙ ap (λ (hs : List Hit). hits_in all facts ++ hs) more.hits_are in
@@ -195,59 +197,60 @@ module _ (laws : CheckLaws) where
           };
           listed = laws.joined all facts checked.keys more.keys bans more.listed;
         };
-        findings = are ∙ (ap (flat_map findings_of) together ∙ all_told all (checked.keys ++ more.keys));
+        findings = are ∙ (ap (flat_map findings_of) together ∙ findings_of_packs all (checked.keys ++ more.keys));
         shown = subst (ShowsEach c.policy c.graph (filter is_of_duplicate (checked.keys ++ more.keys))) (sym shown)
             (shown_of_all all facts checked.keys more.keys end.dup_edges more.listed checked.dup_edges);
         counts = more.counts;
-        tells = more.tells;
-        hits = subst (λ (hs : List Hit). AreHits hs told.hits) hits hit;
+        reports = more.reports;
+        hits = subst (λ (hs : List Hit). AreHits hs results.hits) hits hit;
       }
 
-  -- the same, where the policy is the first file and the lock text stands behind the built-in globs
-  pub told_on : (said : cfg.Policy) (g : Graph) (replacements : Option (List ℕ)) (file lock : ℕ) (view : View)
-      (packages : List Package) (none between packs : List Pack) (end : BansEnd) (others : List Hit) (told : Told)
+  -- the results where the policy is the first file and the lock text is behind the built-in globs
+  pub results_are : (said : cfg.Policy) (g : Graph) (replacements : Option (List ℕ)) (file lock : ℕ) (view : View)
+      (packages : List Package) (none between packs : List Pack) (end : BansEnd) (others : List Hit)
+      (results : CheckResults)
       → file ≡ policy_id → lock ≡ lock_id (builtin_file_of said.bans)
       → IsChecked (checked_by said g (bytes_of replacements) file lock view packages) none between end
       → none ≡ [] → IsLicensedIf (licensing_of said.licenses) g file between packs others
-      → AreHits (end.hits ++ others) told.hits → told.findings ≡ flat_map findings_of packs
-      → told.dup_edges ≡ end.dup_edges → IsTold (circumstances_of said g replacements view packages) told
-  told_on said g replacements file lock view packages none between packs end others told first second checked empty
-      tells hit are shown =
+      → AreHits (end.hits ++ others) results.hits → results.findings ≡ flat_map findings_of packs
+      → results.dup_edges ≡ end.dup_edges → AreResults (circumstances_of said g replacements view packages) results
+  results_are said g replacements file lock view packages none between packs end others results first second checked
+      empty reports hit are shown =
       let l = licensing_of said.licenses in
       let at : ℕ → ℕ → Circumstances =
       λ m n. licensed (checked_by said g (bytes_of replacements) m n view packages) l in
-      subst (λ (m : ℕ). IsTold (at m (lock_id (builtin_file_of said.bans))) told) first
-      (subst (λ (n : ℕ). IsTold (at file n) told) second
-      (told_by (checked_by said g (bytes_of replacements) file lock view packages) l none between packs
-      end others told checked empty tells hit are shown))
+      subst (λ (m : ℕ). AreResults (at m (lock_id (builtin_file_of said.bans))) results) first
+      (subst (λ (n : ℕ). AreResults (at file n) results) second
+      (results_of_both (checked_by said g (bytes_of replacements) file lock view packages) l none between packs
+      end others results checked empty reports hit are shown))
 
--- no two hits of both checks are of one entry, where no two entries have one range
+-- no two hits of both checks have the same entry, where no two entries have the same span
 pub hits_differ : (said : cfg.Policy) (g : Graph) (table : List ℕ) (file lock : ℕ) (view : View)
     (packages : List Package) (none between packs : List Pack) (end : BansEnd) (others : List Hit)
     → AreGlobsRead said.bans → AreEntriesApart said
     → IsChecked (checked_by said g table file lock view packages) none between end
     → IsLicensedIf (licensing_of said.licenses) g file between packs others → IsOneEach (end.hits ++ others)
-hits_differ said g table file lock view packages none between packs end others read apart checked tells =
+hits_differ said g table file lock view packages none between packs end others read apart checked reports =
     let c = checked_by said g table file lock view packages in
-    let more = licence_keys c (licensing_of said.licenses) checked.listed.facts between packs others tells in
+    let more = licence_keys c (licensing_of said.licenses) checked.listed.facts between packs others reports in
     subst (λ (hits : List Hit). IsOneEach hits)
     (sym (ap (λ (hits : List Hit). hits ++ others) checked.hits
     ∙ ap (λ (hits : List Hit). hits_in c checked.listed.facts ++ hits) more.hits_are))
     (hits_apart said.bans said.licenses g checked.listed.facts (said_by table) packages more.counts read apart.bans
     apart.licences)
 
--- with what was seen of files, what is dead, the counts of the findings, and the verdict on them
+-- the report by the results of the checks, with what was seen of files, the dead entries, the counts and the verdict
 pub seen_report : (before after : Disk) (said : cfg.Policy) (g : Graph) (extras : Extras) (first new : List File)
-    (looked : Looked) (report : Report)
-    → IsToldOn before after said g extras first new looked → report.files ≡ new → report.krates ≡ g
-    → report.findings ≡ looked.told.findings → report.dup_edges ≡ looked.told.dup_edges
-    → report.unread ≡ looked.unread → report.malformed ≡ looked.malformed → report.hits ≡ looked.told.hits
+    (checked : GraphResults) (report : Report)
+    → AreGraphResults before after said g extras first new checked → report.files ≡ new → report.krates ≡ g
+    → report.findings ≡ checked.results.findings → report.dup_edges ≡ checked.results.dup_edges
+    → report.unread ≡ checked.unread → report.malformed ≡ checked.malformed → report.hits ≡ checked.results.hits
     → AreDead (keys_in report.findings) report.hits report.dead
     → report.stats ≡ all_stats (is_some said.licenses) report.findings → report.verdict ≡ verdict_of report.findings
     → IsReportSeen before after said g extras first report
-seen_report before after said g extras first new looked report of in_files graph findings dup_edges unread malformed
+seen_report before after said g extras first new checked report of in_files graph findings dup_edges unread malformed
     hits dead stats verdict =
-    let is = of.is_told in
+    let is = of.results in
     let all = circumstances_of said g extras.replacements of.view of.packages in
     let building = building_of said.bans in
     record {
@@ -257,32 +260,32 @@ seen_report before after said g extras first new looked report of in_files graph
       seen = subst₃ (λ (fs : List File) (us : List Unread) (paths : List (List ℕ)).
           IsSeen before.files g extras.registries first fs (of_manifests us) paths of.view) (sym in_files) (sym unread)
           (sym malformed) of.seen;
-      looked_at = subst (λ (us : List Unread). AreSeenBy before.files building extras.home g
+      packages_seen = subst (λ (us : List Unread). AreSeenBy before.files building extras.home g
           (of_packages us) of.packages)
-          (sym unread) of.looked_at;
+          (sym unread) of.packages_seen;
       causes = subst (λ (us : List Unread). HaveCauses before after building extras.home g (of_packages us) of.packages)
           (sym unread) of.causes;
-      ranges = subst (λ (fs : List File). ViewLies fs of.view) (sym in_files) of.ranges;
+      spans = subst (λ (fs : List File). ViewLies fs of.view) (sym in_files) of.spans;
       lines = of.lines;
       is_report = record {
         graph = graph;
         keys = is.keys;
         listed = is.listed;
-        told = findings ∙ is.findings;
+        findings = findings ∙ is.findings;
         shown = subst (ShowsEach all.policy g (filter is_of_duplicate is.keys)) (sym dup_edges) is.shown;
         counts = is.counts;
-        tells = is.tells;
+        reports = is.reports;
         hits = subst (AreHits (both_hits all is.listed.facts is.counts)) (sym hits) is.hits;
         dead = subst (λ (keys : List Key). AreDead keys report.hits report.dead)
-            (ap keys_in (findings ∙ is.findings) ∙ keys_told all is.keys) dead;
+            (ap keys_in (findings ∙ is.findings) ∙ keys_of_findings all is.keys) dead;
         stats = stats ∙ sym (ap (λ (has : Bool). all_stats has report.findings)
             (is_some-option_map licensing_view said.licenses));
         verdict = verdict;
       };
     }
 
--- of what texts hand in besides a policy and metadata, behind the files of the policy
-pub report_by_texts : (before after : Disk) (said : cfg.Policy) (texts : Texts) (g : Graph) (extras : Extras)
+-- the report by the inputs besides a policy and metadata, behind the files of the policy
+pub report_by_texts : (before after : Disk) (said : cfg.Policy) (texts : InputTexts) (g : Graph) (extras : Extras)
     (files : List File) (report : Report) → extras ≡ extras_of texts → files ≡ policy_files texts.policy said.bans
     → IsGraphOf texts.metadata g → IsTableFor (policy_view said.bans) extras.replacements
     → IsReportSeen before after said g extras (files ++ lock_file g.root g ∷ []) report

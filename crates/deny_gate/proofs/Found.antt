@@ -1,4 +1,4 @@
--- What holds of what is found, of what is made of it, and of what is made of each of several.
+-- Properties that hold of every part hold of what is found, and of what is made of it.
 use Rattle.std.proofs.Common.{◌≡◌, ℕ, Bool, List, [], ◌∷◌, All, Contains, Option, None, Some, refl, sym, subst, inl}
 use Rattle.std.proofs.Common.{inr}
 use Rattle.std.specs.Prelude.{find, slice_get}
@@ -6,9 +6,9 @@ use Rattle.std.specs.List.{flat_map}
 use Rattle.std.specs.Option.{option_flatten, option_map_or}
 use Rattle.std.proofs.lemmas.Bool.{cases_Bool, cond-true, cond-false}
 use Rattle.std.proofs.lemmas.List.Elements.{All-nil, All-append}
-use Rattle.deny_lists.proofs.Members.{Contains-first, Contains-rest, from_there}
+use Rattle.deny_base_lists.proofs.Members.{Contains-first, Contains-rest, from_there}
 
--- what holds of nothing, and of each element, holds of what is made of the one that is found
+-- a property of the empty list, and of what each element gives, holds of what the found element gives
 pub of_found : {X Y : Type 0} (P : List Y → Type 0) (f : X → List Y) (test : X → Bool) (xs : List X) → P []
     → ((x : X) → Contains xs x → P (f x)) → P (option_map_or f (find test xs) [])
 of_found P f test [] none each = none
@@ -21,13 +21,13 @@ of_found {X} {Y} P f test (x ∷ xs) none each = elim (cases_Bool (test x))
           (of_found P f test xs none (λ y is. each y (Contains-rest x xs y is)))
     ]
 
--- what holds of nothing, and of what a value gives, holds of what is given
+-- a property of the empty list, and of what a value gives, holds of what an option gives
 pub of_option : {X Y : Type 0} (P : List Y → Type 0) (f : X → List Y) (o : Option X) → P []
     → ((x : X) → o ≡ Some x → P (f x)) → P (option_map_or f o [])
 of_option P f None none each = none
 of_option P f (Some x) none each = each x refl
 
--- a value at a place stands in the list
+-- a value at a place is in the list
 some_flat : {X : Type 0} (xs : List (Option X)) (o : Option (Option X)) (x : X)
     → ((found : Option X) → o ≡ Some found → Contains xs found) → option_flatten o ≡ Some x → Contains xs (Some x)
 some_flat xs None x each is = absurd (cc is)

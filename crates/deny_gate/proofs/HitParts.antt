@@ -1,23 +1,23 @@
--- Hits of which no two are of one entry, by their kinds.
+-- Hits without equal entries, by their kinds.
 use Rattle.std.proofs.Common.{◌≡◌, ◌∙◌, ◌++◌, ◌<◌, ◌≤◌, ℕ, List, [], Option, None, Some, ap, arith, inl, inr, sym}
 use Rattle.std.specs.Prelude.{Contains, filter_map, option_map}
 use Rattle.std.proofs.lemmas.List.Elements.{Contains-append_cases, Contains-append_left, Contains-append_right}
 use Rattle.std.proofs.lemmas.Option.{none-some, same_Some}
-use Rattle.deny_lists.proofs.Members.{from_filter_map, no_member}
+use Rattle.deny_base_lists.proofs.Members.{from_filter_map, no_member}
 use Rattle.deny_base.specs.Entry.{entry_kind_number}
 use Rattle.deny_base.specs.declared.entry.EntryId.{EntryId}
 use Rattle.deny_base.specs.declared.entry.EntryKind.{EntryKind}
 use Rattle.deny_base.specs.declared.entry.Hit.{Hit}
 use Rattle.deny_base.specs.declared.entry.Witness.TheVariants.{Krate}
 use Rattle.deny_base.specs.declared.span.Span.{Span}
-use Rattle.deny_model.specs.Graph.{Crate, kid_of}
-use Rattle.deny_model.specs.Hits.{hit_of}
+use Rattle.deny_spec.specs.Graph.{Crate, kid_of}
+use Rattle.deny_spec.specs.Hits.{hit_of}
 use Rattle.deny_gate.specs.private.Hits.{IsOneEach}
-use Rattle.deny_laws.proofs.Taken.{entry}
+use Rattle.deny_spec_removal.proofs.Taken.{entry}
 
 -- ---- hits of one kind, and of several
 
--- no two of these are of one entry, and their kinds lie between two
+-- no two of the hits have the same entry, and their kinds lie between two
 pub record Part (low high : ℕ) (hits : List Hit) : Type 0 where
   pub once : IsOneEach hits
   pub kinds : (h : Hit) → Contains hits h
@@ -58,7 +58,7 @@ joined_parts low mid next high xs ys one other past up down = record {
         ap (λ (e : EntryId). entry_kind_number e.kind) same in
         omega (arith, of.1, too.0, equal, past)
 
--- the same in another order
+-- a part stays one when its lists change places
 pub part_turned : (low high : ℕ) (xs ys : List Hit) → Part low high (xs ++ ys) → Part low high (ys ++ xs)
 part_turned low high xs ys part = record {
   once = λ h k at_h at_k same. part.once h k (turned h at_h) (turned k at_k) same;
@@ -71,14 +71,15 @@ part_turned low high xs ys part = record {
       | inr right ↦ Contains-append_left xs ys h right
     ]
 
--- hits of one kind, where two of one range are one
-module _ {X : Type 0} (kind : EntryKind) (range : X → Span) (hit : X → Option Hit)
-    (told : (x : X) (h : Hit) → hit x ≡ Some h → h.entry ≡ entry kind (range x)) where
-  given_range : (x y : X) (h k : Hit) → hit x ≡ Some h → hit y ≡ Some k → h.entry ≡ k.entry → range x ≡ range y
-  given_range x y h k of_x of_y same = ap (λ (e : EntryId). e.range) (sym (told x h of_x) ∙ (same ∙ told y k of_y))
+-- the hits of one kind are a part, where two with the same span are equal
+module _ {X : Type 0} (kind : EntryKind) (span : X → Span) (hit : X → Option Hit)
+    (entry_is : (x : X) (h : Hit) → hit x ≡ Some h → h.entry ≡ entry kind (span x)) where
+  given_span : (x y : X) (h k : Hit) → hit x ≡ Some h → hit y ≡ Some k → h.entry ≡ k.entry → span x ≡ span y
+  given_span x y h k of_x of_y same = ap (λ (e : EntryId). e.range)
+      (sym (entry_is x h of_x) ∙ (same ∙ entry_is y k of_y))
 
   pub given_part : (xs : List X)
-      → ((x y : X) → Contains xs x → Contains xs y → range x ≡ range y → hit x ≡ hit y)
+      → ((x y : X) → Contains xs x → Contains xs y → span x ≡ span y → hit x ≡ hit y)
       → Part (entry_kind_number kind) (entry_kind_number kind) (filter_map hit xs)
   given_part xs once = record {
     once = λ h k at_h at_k same.
@@ -86,15 +87,15 @@ module _ {X : Type 0} (kind : EntryKind) (range : X → Span) (hit : X → Optio
         let y = from_filter_map hit xs k at_k in
         same_Some h k
         (sym x.gives
-        ∙ (once x.from y.from x.member y.member (given_range x.from y.from h k x.gives y.gives same) ∙ y.gives));
+        ∙ (once x.from y.from x.member y.member (given_span x.from y.from h k x.gives y.gives same) ∙ y.gives));
     kinds = λ h at.
         let from = from_filter_map hit xs h at in
         let is : entry_kind_number h.entry.kind ≡ entry_kind_number kind =
-        ap (λ (e : EntryId). entry_kind_number e.kind) (told from.from h from.gives) in
+        ap (λ (e : EntryId). entry_kind_number e.kind) (entry_is from.from h from.gives) in
         (omega (arith, is), omega (arith, is));
   }
 
-pub by_crate : (kind : EntryKind) (range : Span) (o : Option Crate) (h : Hit)
-    → option_map (λ c. hit_of kind range (Krate (kid_of c))) o ≡ Some h → h.entry ≡ entry kind range
-by_crate kind range None h is = absurd (none-some h is)
-by_crate kind range (Some c) h is = ap (λ (k : Hit). k.entry) (sym (same_Some _ h is))
+pub by_crate : (kind : EntryKind) (span : Span) (o : Option Crate) (h : Hit)
+    → option_map (λ c. hit_of kind span (Krate (kid_of c))) o ≡ Some h → h.entry ≡ entry kind span
+by_crate kind span None h is = absurd (none-some h is)
+by_crate kind span (Some c) h is = ap (λ (k : Hit). k.entry) (sym (same_Some _ h is))

@@ -1,5 +1,5 @@
--- What could not be read of manifests and of packages, put together: each part can be told from the other by what was
--- wanted, and says what it said alone.
+-- The entries for what could not be read of manifests and of packages, put together: each part can be told from the
+-- other by its purposes, and says what it said alone.
 use Rattle.std.proofs.Common.{◌≡◌, ◌++◌, ℕ, Bool, false, true, not, List, Option, None, Some, ap, subst, inl, inr}
 use Rattle.std.specs.Prelude.{Contains}
 use Rattle.std.specs.List.{list_any}
@@ -7,39 +7,39 @@ use Rattle.std.specs.List.Sorted.{IsStrictlySortedBy}
 use Rattle.std.specs.Ordering.{eq_by_cmp}
 use Rattle.std.proofs.lemmas.List.Elements.{Contains-append_cases, Contains-append_left, Contains-append_right}
 use Rattle.std.proofs.lemmas.List.Kept.{IsStrictlySortedBy-filter}
-use Rattle.deny_lists.specs.Ascending.{Lists}
-use Rattle.deny_lists.proofs.Booleans.{tests_agree}
-use Rattle.deny_lists.proofs.Members.{Contains-filter, Contains-from_filter, any_from, any_passes, no_member}
-use Rattle.deny_lists.proofs.Members.{passes_filter, empty_from_no_member}
-use Rattle.deny_lists.proofs.Sorted.{one_ascending}
+use Rattle.deny_base_lists.specs.Ascending.{Lists}
+use Rattle.deny_base_lists.proofs.Booleans.{tests_agree}
+use Rattle.deny_base_lists.proofs.Members.{Contains-filter, Contains-from_filter, any_from, any_passes, no_member}
+use Rattle.deny_base_lists.proofs.Members.{passes_filter, empty_from_no_member}
+use Rattle.deny_base_lists.proofs.Sorted.{one_ascending}
 use Rattle.deny_base.specs.declared.span.Kid.{Kid}
-use Rattle.deny_build_model.specs.Building.{Building}
-use Rattle.deny_build_model.specs.declared.package.Failure.{Failure}
-use Rattle.deny_build_model.specs.declared.package.Failure.TheVariants.{Crowded, Long, Unlisted, Unreadable}
-use Rattle.deny_build_model.specs.declared.package.Package.{Package}
-use Rattle.deny_model.specs.Graph.{Crate, Graph, kid_of}
-use Rattle.deny_outside.specs.Disk.{Disk, Files, IsLater}
-use Rattle.deny_packages.proofs.Among.{AreSameEntries, seen_weaker, wanted_among}
-use Rattle.deny_packages.specs.Seen.{ArePackagesSeenBy}
-use Rattle.deny_packages.specs.Wanted.{IsWantedOf}
-use Rattle.deny_packages.specs.Wanted.IsWantedOf.{by_folder, by_header, by_script, by_sum}
-use Rattle.deny_packages.specs.Why.{HasCause, IsBecause, IsOfPurpose}
+use Rattle.deny_spec.specs.Building.{Building}
+use Rattle.deny_spec.specs.declared.package.Failure.{Failure}
+use Rattle.deny_spec.specs.declared.package.Failure.TheVariants.{Crowded, Long, Unlisted, Unreadable}
+use Rattle.deny_spec.specs.declared.package.Package.{Package}
+use Rattle.deny_spec.specs.Graph.{Crate, Graph, kid_of}
+use Rattle.deny_base_disk.specs.Disk.{Disk, Files, IsLater}
+use Rattle.deny_build_scan.proofs.Among.{AreSameEntries, seen_weaker, wanted_among}
+use Rattle.deny_build_scan.specs.Seen.{ArePackagesSeenBy}
+use Rattle.deny_build_scan.specs.Wanted.{IsWantedOf}
+use Rattle.deny_build_scan.specs.Wanted.IsWantedOf.{by_folder, by_header, by_script, by_sum}
+use Rattle.deny_build_scan.specs.Why.{HasCause, IsBecause, IsOfPurpose}
 use Rattle.deny_rules.specs.Packages.{AreSeenBy, HaveCauses}
 use Rattle.deny_spans.proofs.CountLemmas.{caused_listed}
 use Rattle.deny_spans.specs.Wanted.{AreWanted, IsWanted}
 use Rattle.deny_spans.specs.Wanted.IsWanted.{by_crate, by_workspace}
-use Rattle.deny_unread.proofs.BoundLemmas.{bound_wider}
-use Rattle.deny_unread.proofs.CauseLemmas.{caused_then}
-use Rattle.deny_outside.proofs.PieceLemmas.{later_same}
-use Rattle.deny_unread.proofs.Later.{failed_wider}
-use Rattle.deny_unread.proofs.UnreadEqual.{unread_cmp-total}
-use Rattle.deny_unread.specs.Bound.{Folders}
-use Rattle.deny_unread.specs.Causes.{AreCaused}
-use Rattle.deny_unread.specs.Purpose.{call_for}
-use Rattle.deny_unread.specs.Unread.{asked, is_unread, unread_cmp}
-use Rattle.deny_unread.specs.declared.purpose.Purpose.{Purpose}
-use Rattle.deny_unread.specs.declared.purpose.Purpose.TheVariants as purpose
-use Rattle.deny_unread.specs.declared.unread.Unread.{Unread}
+use Rattle.deny_base_unread.proofs.BoundLemmas.{bound_wider}
+use Rattle.deny_base_unread.proofs.CauseLemmas.{caused_then}
+use Rattle.deny_base_disk.proofs.PieceLemmas.{later_same}
+use Rattle.deny_base_unread.proofs.Later.{failed_wider}
+use Rattle.deny_base.proofs.UnreadEqual.{unread_cmp-total}
+use Rattle.deny_base_unread.specs.Bound.{Folders}
+use Rattle.deny_base_unread.specs.Causes.{AreCaused}
+use Rattle.deny_base.specs.Purpose.{call_for}
+use Rattle.deny_base.specs.Unread.{asked, is_unread, unread_cmp}
+use Rattle.deny_base.specs.declared.purpose.Purpose.{Purpose}
+use Rattle.deny_base.specs.declared.purpose.Purpose.TheVariants as purpose
+use Rattle.deny_base.specs.declared.unread.Unread.{Unread}
 use Rattle.deny_gate.specs.Unread.{is_for_manifest, of_manifests, of_packages}
 
 abbrev pub for_manifest : Unread → Bool
@@ -74,7 +74,7 @@ none_for_manifest told (Some b) home g us packages seen u at =
 
 -- ---- a longer time
 
--- the cause of a failure in a part of the time is one in all of it
+-- the cause of a failure within a span of time is one in a longer time
 cause_wider : (folder : Folders) (old between new : Disk) (u : Unread) (failure : Failure) → IsLater old between
     → HasCause folder between new u failure → HasCause folder old new u failure
 cause_wider folder old between new u Unreadable later failed =
@@ -160,21 +160,21 @@ module _ (manifests packages joined : List Unread) (listed : Lists unread_cmp (C
   )
   seen_by_joined told (Some b) home g contents seen = record {
     reached = seen.reached;
-    tells = seen.tells;
+    reports = seen.reports;
     seen = seen_weaker IsOfPurpose IsOfPurpose told b seen.reached home g packages (of_packages joined) contents
         (λ u failure is. is) (same_entries g) seen.seen;
     wanted = λ u at. wanted_among told b seen.reached g packages (of_packages joined) contents packages
         (same_entries g) seen.wanted u (of_second u at);
   }
 
-  -- and have the same causes, from before manifests were read
+  -- the entries for packages have the same causes, from before manifests were read
   pub causes_by_joined : (old between new : Disk) (building : Option Building) (home : Option (List ℕ)) (g : Graph)
       (contents : List Package) → IsLater old between → HaveCauses between new building home g packages contents
       → HaveCauses old new building home g (of_packages joined) contents
   causes_by_joined old between new None home g contents later causes = tt
   causes_by_joined old between new (Some b) home g contents later causes = record {
     reached = causes.reached;
-    tells = causes.tells;
+    reports = causes.reports;
     because = λ folder are.
         subst (λ (told : Option Files). ArePackagesSeenBy (IsBecause folder old new) told b causes.reached home g
         (of_packages joined) contents) later.files

@@ -1,3 +1,4 @@
+pub mod ActiveRules
 pub mod AnswerLaws
 pub mod ApartLemmas
 pub mod Beside
@@ -15,6 +16,7 @@ pub mod DeadRows
 pub mod EachCode
 pub mod ExitLaws
 pub mod FeatureSpans
+pub mod FindingKeys
 pub mod FindingLaws
 pub mod Found
 pub mod HeadlineLaws
@@ -26,19 +28,17 @@ pub mod JoinedUnread
 pub mod LabelLaws
 pub mod LockLabels
 pub mod ManifestLabels
-pub mod MindedRules
 pub mod OneGraph
 pub mod OneHits
 pub mod OneReport
 pub mod PackagesStay
 pub mod Placed
-pub mod PolicyBuildRanges
+pub mod PolicyBuildSpans
 pub mod PolicyFiles
 pub mod PolicyLabels
-pub mod PolicyRanges
+pub mod PolicySpans
 pub mod ScriptSums
 pub mod Severities
-pub mod Standing
 pub mod SumsApart
 pub mod Unseeing
 pub mod Violations

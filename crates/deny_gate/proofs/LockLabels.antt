@@ -13,22 +13,22 @@ use Rattle.std.proofs.lemmas.Cmp.{tied_itself}
 use Rattle.std.proofs.lemmas.Option.{same_Some}
 use Rattle.deny_base.specs.declared.files.File.{File}
 use Rattle.deny_base.specs.declared.key.Key.{Key}
-use Rattle.deny_lists.proofs.Members.{Contains-first, Contains-rest, at_member, map_at, there, zip_at}
-use Rattle.deny_lists.proofs.Equalities.{subst₃}
-use Rattle.deny_lock.specs.Order.{lock_cmp}
-use Rattle.deny_lock.specs.Text.{IsLineOf, LinesAscend, lock_span_at, lock_text}
-use Rattle.deny_lock.specs.declared.line.LockSpan.{LockSpan}
-use Rattle.deny_model.specs.Duplicates.{IsDuplicate}
-use Rattle.deny_model.specs.Facts.{Facts}
-use Rattle.deny_model.specs.Graph.{Crate, Graph}
-use Rattle.deny_model.specs.Keys.{duplicate_key}
-use Rattle.deny_model.specs.Policy.{Policy}
-use Rattle.deny_model.specs.Told.{crate_at, primary}
-use Rattle.deny_model.specs.VersionOrder.{version_cmp}
+use Rattle.deny_base_lists.proofs.Members.{Contains-first, Contains-rest, at_member, map_at, there, zip_at}
+use Rattle.deny_base_lists.proofs.Equalities.{subst₃}
+use Rattle.deny_krates_lock.specs.Order.{lock_cmp}
+use Rattle.deny_krates_lock.specs.Text.{IsLineOf, LinesAscend, lock_span_at, lock_text}
+use Rattle.deny_krates_lock.specs.declared.line.LockSpan.{LockSpan}
+use Rattle.deny_spec.specs.Duplicates.{IsDuplicate}
+use Rattle.deny_spec.specs.Facts.{Facts}
+use Rattle.deny_spec.specs.Graph.{Crate, Graph}
+use Rattle.deny_spec.specs.Keys.{duplicate_key}
+use Rattle.deny_spec.specs.Policy.{Policy}
+use Rattle.deny_spec.specs.DiagParts.{crate_at, primary}
+use Rattle.deny_spec.specs.VersionOrder.{version_cmp}
 use Rattle.deny_spans.specs.SpansView.{AreSpansOf}
 use Rattle.deny_spans.specs.declared.krate_spans.KrateSpans.{KrateSpans}
-use Rattle.deny_toml.specs.Ranges.{IsRange}
-use Rattle.deny_codes.specs.Duplicates.{duplicate_told, lock_label, lock_labels, lock_lines}
+use Rattle.deny_toml.specs.Spans.{IsSpan}
+use Rattle.deny_spec_report.specs.Duplicates.{duplicate_diag, lock_label, lock_labels, lock_lines}
 use Rattle.deny_gate.specs.Labels.{ArePlaced}
 use Rattle.deny_gate.specs.private.Labels.{AreLockLines}
 use Rattle.deny_gate.proofs.Beside.{listed_from}
@@ -37,7 +37,7 @@ use Rattle.deny_gate.proofs.Placed.{ArePlaced as AtPlaces}
 
 -- ---- lines
 
--- the lines that stand where the spans of their crates say
+-- the lines of crates are in the lock text where their spans say
 lines_of : (g : Graph) → AllZip (IsLineOf (lock_text g.crates)) g.crates (map (lock_span_at g.crates) g.crates)
     → LinesAscend g.crates → AreLockLines g
 lines_of g zip ascend = record {
@@ -57,14 +57,14 @@ lines_of_spans g spans are ascend =
     are.lines)
     ascend
 
--- of two crates of one name that of the lower version stands first
+-- of two crates of one name the one with the lower version is first in the lock text
 lower_line : (c d : Crate) → c.name ≡ d.name → version_cmp c d ≡ Less → lock_cmp c d ≡ Less
 lower_line c d named below =
     let tie : slice_cmp nat_cmp c.name d.name ≡ Equal =
     subst (λ (name : List ℕ). slice_cmp nat_cmp c.name name ≡ Equal) named (tied_itself nat_list_cmp_total c.name) in
     ap (λ (o : Ordering). ordering_then o (version_cmp c d)) tie ∙ below
 
--- a crate is another, or its line stands before the other's
+-- a crate is the other, or its line is before the other's
 abbrev IsUpTo : Crate → Crate → Type 0
 IsUpTo c d = (c ≡ d) ⊎ (lock_cmp c d ≡ Less)
 
@@ -82,9 +82,9 @@ module _ (g : Graph) (lines : AreLockLines g) where
         (lines.each d other).line.upward,
       )
 
-  -- the lines of crates are a range of the lock text
+  -- from the line of a crate to that of another is a span of the lock text
   lines_are : (c d : Crate) → Contains g.crates c → Contains g.crates d → IsUpTo c d
-      → IsRange (lock_text g.crates) (lock_lines g c d)
+      → IsSpan (lock_text g.crates) (lock_lines g c d)
   unfolding lock_lines
   lines_are c d one other up = record {
     ordered = ends_behind c d one other up;
@@ -99,7 +99,7 @@ module _ (g : Graph) (lines : AreLockLines g) where
     at_place : (c : Crate) → Contains g.crates c → option_and_then (crate_at g) (Some c.place) ≡ Some c
     at_place c one = placed c one
 
-    -- the last of these is the one that comes before them, or one of them
+    -- the last of a crate and those behind it
     record IsLast (o : Option ℕ) (d : Crate) (cs : List Crate) : Type 0 where
       last : Crate
       one : (d ≡ last) ⊎ Contains cs last
@@ -131,7 +131,7 @@ module _ (g : Graph) (lines : AreLockLines g) where
       label_placed (Some a) None c d first_is other_is one last up = absurd (cc other_is)
       label_placed (Some a) (Some b) c d first_is other_is one last up =
           first_label files lock file there (primary lock (lock_lines g a b) (codes "lock entries")) [] refl
-          (subst₃ (λ (text : List ℕ) (e f : Crate). IsRange text (lock_lines g e f)) (sym source)
+          (subst₃ (λ (text : List ℕ) (e f : Crate). IsSpan text (lock_lines g e f)) (sym source)
           (same_Some c a (sym first_is)) (same_Some d b (sym other_is)) (lines_are c d one last up)) (no_labels files)
 
       labels_placed : (crates : List Crate) (name : List ℕ) → IsStrictlySortedBy version_cmp crates
@@ -158,8 +158,8 @@ module _ (g : Graph) (lines : AreLockLines g) where
           (at_place c first.0) last.is first.0 one order
 
       pub lock_placed : (p : Policy) (facts : Facts) (key : Key) → IsDuplicate p g facts key
-          → ArePlaced files (duplicate_told p g (Some lock) key).labels
-      unfolding duplicate_told duplicate_key
+          → ArePlaced files (duplicate_diag p g (Some lock) key).labels
+      unfolding duplicate_diag duplicate_key
       lock_placed p facts key is =
           let of = is.2 in
           let beside = listed_from p g facts is.0.name of.crates of.listed of.several in

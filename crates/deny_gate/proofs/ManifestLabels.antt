@@ -1,4 +1,4 @@
--- The labels of findings on manifests lie in the files of these.
+-- The labels of findings on manifests lie in the files of the manifests.
 use Rattle.std.proofs.Common.{◌≡◌, ◌∙◌, ℕ, Bool, true, false, List, [], ◌∷◌, ◌++◌, Contains, Option, None, Some}
 use Rattle.std.proofs.Common.{refl, subst, sym}
 use Rattle.std.specs.Prelude.{IfSome, codes, filter, if◌then◌else◌, option_and_then, option_map, slice_get}
@@ -10,74 +10,77 @@ use Rattle.deny_base.specs.declared.key.Key.{Key}
 use Rattle.deny_base.specs.declared.label.Label.{Label}
 use Rattle.deny_base.specs.declared.span.Span.{Span}
 use Rattle.deny_base.specs.declared.span.Spanned.{Spanned}
-use Rattle.deny_lists.proofs.Members.{Contains-from_flat_map, filtered, from_contains_map, no_member}
-use Rattle.deny_model.specs.Graph.{Crate, Graph}
-use Rattle.deny_model.specs.Policy.{Policy, Sharing}
-use Rattle.deny_model.specs.Told.{crate_at, primary, secondary}
-use Rattle.deny_model.specs.View.{Declared, Manifest, View, WorkspaceEntry, manifest_of, shared_at}
-use Rattle.deny_model.specs.Wrappers.{same_span}
-use Rattle.deny_toml.specs.Ranges.{IsRange}
-use Rattle.deny_codes.specs.Sharing.{Use, all_uses, counts_here, declared_rename, entry_labels, entry_labels_in}
-use Rattle.deny_codes.specs.Sharing.{entry_rename, entry_words, is_unshared, is_use_of, note_at, patched_note}
-use Rattle.deny_codes.specs.Sharing.{renamed_entry_note, renamed_note, unshared_labels, unused_entry_told}
-use Rattle.deny_codes.specs.Sharing.{unused_entry_told_by, unused_labels, unused_labels_in, unused_words, use_in}
-use Rattle.deny_codes.specs.Sharing.{use_labels, uses_at, uses_in, uses_of}
-use Rattle.deny_codes.specs.Sharing.{workspace_duplicate_labels, workspace_duplicate_told, workspace_duplicate_told_by}
-use Rattle.deny_codes.specs.Telling.{not_built}
-use Rattle.deny_codes.specs.Wildcards.{is_minded_in, is_shared, labels_of_wildcard, shared_labels}
-use Rattle.deny_codes.specs.Wildcards.{shared_range, unresolved_labels, unresolved_labels_in, unresolved_labels_of_dep}
-use Rattle.deny_codes.specs.Wildcards.{unresolved_told, version_range, wildcard_label, wildcard_labels}
-use Rattle.deny_codes.specs.Wildcards.{wildcard_labels_in, wildcard_labels_of, wildcard_told, wildcards_in}
-use Rattle.deny_codes.specs.Wildcards.{workspace_label, workspace_label_at}
-use Rattle.deny_spans.specs.Ranges.{DeclaredLies, EntryLies, ManifestLies, SharedLies, ViewLies}
+use Rattle.deny_base_lists.proofs.Members.{Contains-from_flat_map, filtered, from_contains_map, no_member}
+use Rattle.deny_spec.specs.Graph.{Crate, Graph}
+use Rattle.deny_spec.specs.Policy.{Policy, Sharing}
+use Rattle.deny_spec.specs.DiagParts.{crate_at, primary, secondary}
+use Rattle.deny_spec.specs.View.{Declared, Manifest, View, WorkspaceEntry, manifest_of, shared_at}
+use Rattle.deny_spec.specs.Wrappers.{same_span}
+use Rattle.deny_toml.specs.Spans.{IsSpan}
+use Rattle.deny_spec_report.specs.Sharing.{Use, all_uses, counts_here, declared_rename, entry_labels, entry_labels_in}
+use Rattle.deny_spec_report.specs.Sharing.{entry_rename, entry_message, is_unshared, is_use_of, note_at, patched_note}
+use Rattle.deny_spec_report.specs.Sharing.{renamed_entry_note, renamed_note, unshared_labels, unused_entry_diag}
+use Rattle.deny_spec_report.specs.Sharing.{unused_entry_diag_by, unused_labels, unused_labels_in, unused_message}
+use Rattle.deny_spec_report.specs.Sharing.{use_in}
+use Rattle.deny_spec_report.specs.Sharing.{use_labels, uses_at, uses_in, uses_of}
+use Rattle.deny_spec_report.specs.Sharing.{workspace_duplicate_labels, workspace_duplicate_diag}
+use Rattle.deny_spec_report.specs.Sharing.{workspace_duplicate_diag_by}
+use Rattle.deny_spec_report.specs.MessageParts.{not_built}
+use Rattle.deny_spec_report.specs.Wildcards.{is_active_in, is_shared, labels_of_wildcard, shared_labels}
+use Rattle.deny_spec_report.specs.Wildcards.{shared_span, unresolved_labels, unresolved_labels_in}
+use Rattle.deny_spec_report.specs.Wildcards.{unresolved_labels_of_dep}
+use Rattle.deny_spec_report.specs.Wildcards.{unresolved_diag, version_span, wildcard_label, wildcard_labels}
+use Rattle.deny_spec_report.specs.Wildcards.{wildcard_labels_in, wildcard_labels_of, wildcard_diag, wildcards_in}
+use Rattle.deny_spec_report.specs.Wildcards.{workspace_label, workspace_label_at}
+use Rattle.deny_spans.specs.Spans.{DeclaredLies, EntryLies, ManifestLies, SharedLies, ViewLies}
 use Rattle.deny_gate.specs.Labels.{ArePlaced, IsPlaced}
 use Rattle.deny_gate.proofs.Found.{all_flat, flat_there, of_found, of_option}
 
--- the range of what may be there, or another
-or_range : {T : Type 0} (text : List ℕ) (o : Option (Spanned T)) (value : Span) → IfSome o (λ s. IsRange text s.span)
-    → IsRange text value → IsRange text (option_map_or (λ s. s.span) o value)
-or_range text None value there lies = lies
-or_range text (Some s) value there lies = there
+-- the span of an optional value, or else another
+or_span : {T : Type 0} (text : List ℕ) (o : Option (Spanned T)) (value : Span) → IfSome o (λ s. IsSpan text s.span)
+    → IsSpan text value → IsSpan text (option_map_or (λ s. s.span) o value)
+or_span text None value there lies = lies
+or_span text (Some s) value there lies = there
 
-range_in : {T : Type 0} (text : List ℕ) (o : Option (Spanned T)) → IfSome o (λ s. IsRange text s.span)
-    → IfSome (option_map (λ s. s.span) o) (IsRange text)
-range_in text None lies = lies
-range_in text (Some s) lies = lies
+span_in : {T : Type 0} (text : List ℕ) (o : Option (Spanned T)) → IfSome o (λ s. IsSpan text s.span)
+    → IfSome (option_map (λ s. s.span) o) (IsSpan text)
+span_in text None lies = lies
+span_in text (Some s) lies = lies
 
 module _ (files : List File) where
   pub no_labels : ArePlaced files []
   no_labels = All-nil (IsPlaced files)
 
-  -- ---- labels at ranges of one file
+  -- ---- labels at spans of one file
 
   module _ (number : ℕ) (file : File) (there : slice_get files number ≡ Some file) where
-    placed_at : (label : Label) → label.file_id ≡ number → IsRange file.source label.span → IsPlaced files label
+    placed_at : (label : Label) → label.file_id ≡ number → IsSpan file.source label.span → IsPlaced files label
     placed_at label at lies = record {
       file = file;
       there = subst (λ (n : ℕ). slice_get files n ≡ Some file) (sym at) there;
-      range = lies;
+      span = lies;
     }
 
-    pub first_label : (label : Label) (labels : List Label) → label.file_id ≡ number → IsRange file.source label.span
+    pub first_label : (label : Label) (labels : List Label) → label.file_id ≡ number → IsSpan file.source label.span
         → ArePlaced files labels → ArePlaced files (label ∷ labels)
     first_label label labels at lies others =
         All-cons (IsPlaced files) label labels (placed_at label at lies) others
 
-    note_placed : (message : List ℕ) (o : Option Span) → IfSome o (IsRange file.source)
+    note_placed : (message : List ℕ) (o : Option Span) → IfSome o (IsSpan file.source)
         → ArePlaced files (note_at number message o)
     note_placed message None lies = no_labels
     note_placed message (Some span) lies = first_label (secondary number span message) [] refl lies no_labels
 
-    -- of an entry that the workspace shares: at its key, and what it is patched and renamed by
+    -- the labels of an entry that the workspace shares: at its key, and at its patch and its rename
     entry_placed : (label : Label) (message : List ℕ) (e : WorkspaceEntry) → label.file_id ≡ number → label.span ≡ e.key
         → EntryLies file.source e
         → ArePlaced files (label ∷ (note_at number patched_note e.patched ++ note_at number message (entry_rename e)))
     entry_placed label message e at key lies =
         let patched = note_at number patched_note e.patched in
         let renamed = note_at number message (entry_rename e) in
-        first_label label (patched ++ renamed) at (subst (IsRange file.source) (sym key) lies.key)
+        first_label label (patched ++ renamed) at (subst (IsSpan file.source) (sym key) lies.key)
         (All-append (IsPlaced files) patched renamed (note_placed patched_note e.patched lies.patched)
-        (note_placed message (entry_rename e) (range_in file.source e.rename lies.rename)))
+        (note_placed message (entry_rename e) (span_in file.source e.rename lies.rename)))
 
   module _ (view : View) (lies : ViewLies files view) where
     -- ---- what the view holds
@@ -97,14 +100,14 @@ module _ (files : List File) where
     of_flag true labels placed = placed
     of_flag false labels placed = no_labels
 
-    -- labels of the file that is the workspace's, at an entry
+    -- labels at an entry lie in the file of the workspace's manifest
     in_workspace : (e : WorkspaceEntry) (labels : ℕ → List Label) → SharedLies files view.workspace e
         → ((number : ℕ) (file : File) → slice_get files number ≡ Some file → EntryLies file.source e
         → ArePlaced files (labels number)) → ArePlaced files (option_map_or labels view.workspace [])
     in_workspace e labels shared placed = of_option (ArePlaced files) labels view.workspace no_labels
         (λ number is. placed number shared.file
         (subst (λ (n : ℕ). slice_get files n ≡ Some shared.file)
-        (same_Some shared.number number (sym shared.stands ∙ is)) shared.is) shared.entry)
+        (same_Some shared.number number (sym shared.in_file ∙ is)) shared.is) shared.entry)
 
     -- ---- wildcards
 
@@ -112,8 +115,8 @@ module _ (files : List File) where
         → ArePlaced files (option_map_or (λ file. workspace_label file e) view.workspace [])
     workspace_placed e shared = in_workspace e (λ number. workspace_label number e) shared
         (λ number file there entry.
-        first_label number file there (secondary number (shared_range e) (codes "workspace dependency")) [] refl
-        (or_range file.source e.version e.value entry.version entry.value) no_labels)
+        first_label number file there (secondary number (shared_span e) (codes "workspace dependency")) [] refl
+        (or_span file.source e.version e.value entry.version entry.value) no_labels)
 
     shared_placed : (d : Declared) → ArePlaced files (shared_labels view d)
     unfolding shared_labels
@@ -127,8 +130,8 @@ module _ (files : List File) where
     unfolding labels_of_wildcard wildcard_label
     of_wildcard m lie d written =
         let at = lie.deps d written in
-        first_label m.file lie.file lie.is (primary m.file (version_range d) (codes "wildcard dependency"))
-        (shared_labels view d) refl (or_range lie.file.source d.version_req d.value at.version_req at.value)
+        first_label m.file lie.file lie.is (primary m.file (version_span d) (codes "wildcard dependency"))
+        (shared_labels view d) refl (or_span lie.file.source d.version_req d.value at.version_req at.value)
         (shared_placed d)
 
     wildcards_placed : (p : Policy) (g : Graph) (key : Key) → ArePlaced files (wildcard_labels p g view key)
@@ -137,10 +140,10 @@ module _ (files : List File) where
         of_option (ArePlaced files) (wildcard_labels_of p g view) (crate_at g key.place) no_labels (λ c here.
         of_option (ArePlaced files) (wildcard_labels_in p g view c) (manifest_of view c) no_labels (λ m is.
         all_flat (IsPlaced files) (labels_of_wildcard view m.file) (wildcards_in p g c m) (λ d at.
-        of_wildcard m (manifest_lies c m is) d (filtered (is_minded_in p g c) m.deps d at))))
+        of_wildcard m (manifest_lies c m is) d (filtered (is_active_in p g c) m.deps d at))))
 
-    pub wildcard_placed : (p : Policy) (g : Graph) (key : Key) → ArePlaced files (wildcard_told p g view key).labels
-    unfolding wildcard_told
+    pub wildcard_placed : (p : Policy) (g : Graph) (key : Key) → ArePlaced files (wildcard_diag p g view key).labels
+    unfolding wildcard_diag
     wildcard_placed p g key = wildcards_placed p g key
 
     -- ---- what the workspace does not share
@@ -155,11 +158,11 @@ module _ (files : List File) where
         All-append (IsPlaced files) (option_map_or flag d.workspace []) (value ∷ [])
         (of_option (ArePlaced files) flag d.workspace no_labels
         (λ at is. first_label number file there (primary number at.span (codes "usage of workspace dependency")) [] refl
-        (subst (λ (o : Option (Spanned Bool)). IfSome o (λ s. IsRange file.source s.span)) is lie.workspace) no_labels))
+        (subst (λ (o : Option (Spanned Bool)). IfSome o (λ s. IsSpan file.source s.span)) is lie.workspace) no_labels))
         (first_label number file there value [] refl lie.value no_labels)
 
-    pub unresolved_placed : (g : Graph) (key : Key) → ArePlaced files (unresolved_told g view key).labels
-    unfolding unresolved_told unresolved_labels unresolved_labels_in
+    pub unresolved_placed : (g : Graph) (key : Key) → ArePlaced files (unresolved_diag g view key).labels
+    unfolding unresolved_diag unresolved_labels unresolved_labels_in
     unresolved_placed g key = of_option (ArePlaced files) (unresolved_labels_in key.entry)
         (option_and_then (manifest_of view) (crate_at g key.place)) no_labels
         (λ m is. of_found (ArePlaced files) (unresolved_labels_of_dep m.file) (λ d. same_span d.key key.entry) m.deps
@@ -177,7 +180,7 @@ module _ (files : List File) where
         first_label m.file lie.file lie.is (primary m.file d.key [])
         (note_at m.file renamed_note (declared_rename d)) refl at.key
         (note_placed m.file lie.file lie.is renamed_note (declared_rename d)
-        (range_in lie.file.source d.rename at.rename))
+        (span_in lie.file.source d.rename at.rename))
 
     of_manifest : (s : Sharing) (o : Option Manifest) → ((m : Manifest) → o ≡ Some m → ManifestLies files m)
         → (used : Use) → Contains (option_map_or (uses_in s) o []) used → ArePlaced files (use_labels used)
@@ -206,12 +209,12 @@ module _ (files : List File) where
     entry_there : (e : WorkspaceEntry) → SharedLies files view.workspace e → ArePlaced files (entry_labels_in view e)
     unfolding entry_labels_in entry_labels
     entry_there e shared = in_workspace e (λ number. entry_labels number e) shared (λ number file there entry.
-        entry_placed number file there (secondary number e.key (entry_words e)) renamed_entry_note e refl refl
+        entry_placed number file there (secondary number e.key (entry_message e)) renamed_entry_note e refl refl
         entry)
 
     duplicate_by : (g : Graph) (key : Key) (o : Option Sharing)
-        → ArePlaced files (option_map_or (workspace_duplicate_told_by g view key) o not_built).labels
-    unfolding workspace_duplicate_told_by workspace_duplicate_labels
+        → ArePlaced files (option_map_or (workspace_duplicate_diag_by g view key) o not_built).labels
+    unfolding workspace_duplicate_diag_by workspace_duplicate_labels
     duplicate_by g key None = no_labels
     duplicate_by g key (Some s) =
         All-append (IsPlaced files) (option_map_or (entry_labels_in view) (shared_at view key.place) [])
@@ -221,21 +224,21 @@ module _ (files : List File) where
         (uses_placed s g key.place)
 
     pub duplicate_placed : (p : Policy) (g : Graph) (key : Key)
-        → ArePlaced files (workspace_duplicate_told p g view key).labels
-    unfolding workspace_duplicate_told
+        → ArePlaced files (workspace_duplicate_diag p g view key).labels
+    unfolding workspace_duplicate_diag
     duplicate_placed p g key = duplicate_by g key p.sharing
 
     -- ---- entries that no crate comes from
 
     unused_by : (key : Key) (o : Option Sharing)
-        → ArePlaced files (option_map_or (unused_entry_told_by view key) o not_built).labels
-    unfolding unused_entry_told_by unused_labels_in unused_labels
+        → ArePlaced files (option_map_or (unused_entry_diag_by view key) o not_built).labels
+    unfolding unused_entry_diag_by unused_labels_in unused_labels
     unused_by key None = no_labels
     unused_by key (Some s) =
         of_found (ArePlaced files) (unused_labels_in view) (λ e. same_span e.key key.entry) view.unused no_labels
         (λ e at. in_workspace e (λ number. unused_labels number e) (lies.unused e at) (λ number file there entry.
-        entry_placed number file there (primary number e.key (unused_words e)) renamed_note e refl refl entry))
+        entry_placed number file there (primary number e.key (unused_message e)) renamed_note e refl refl entry))
 
-    pub unused_placed : (p : Policy) (key : Key) → ArePlaced files (unused_entry_told p view key).labels
-    unfolding unused_entry_told
+    pub unused_placed : (p : Policy) (key : Key) → ArePlaced files (unused_entry_diag p view key).labels
+    unfolding unused_entry_diag
     unused_placed p key = unused_by key p.sharing

@@ -1,37 +1,37 @@
--- By true facts the same is hit; and what asks nothing of files is hit whatever was seen of them.
+-- True facts determine what is hit; and what depends on no files is hit whatever was seen of them.
 use Rattle.std.proofs.Common.{◌≡◌, ◌∙◌, ◌&&◌, ◌++◌, ◌≤◌, Bool, false, not, List, [], Option, None, Some, ap}
 use Rattle.std.proofs.Common.{append-nil, arith, refl, sym}
 use Rattle.std.specs.Prelude.{Contains, filter_map, option_map}
 use Rattle.std.specs.List.{flat_map, list_any}
 use Rattle.std.specs.Option.{option_map_or}
 use Rattle.std.proofs.lemmas.List.Elements.{filter-append}
-use Rattle.deny_lists.proofs.Agreement.{filter_map_on, find_on, same_test}
-use Rattle.deny_lists.proofs.Members.{Contains-from_flat_map, no_member}
+use Rattle.deny_base_lists.proofs.Agreement.{filter_map_on, find_on, same_test}
+use Rattle.deny_base_lists.proofs.Members.{Contains-from_flat_map, no_member}
 use Rattle.deny_base.specs.Entry.{entry_kind_number}
 use Rattle.deny_base.specs.declared.entry.EntryKind.{EntryKind}
 use Rattle.deny_base.specs.declared.entry.EntryKind.TheVariants as kind
 use Rattle.deny_base.specs.declared.entry.Hit.{Hit}
 use Rattle.deny_base.specs.declared.entry.Witness.TheVariants.{Krate}
-use Rattle.deny_build_model.specs.Building.{Building, Bypass}
-use Rattle.deny_build_model.specs.declared.package.Package.{Package}
-use Rattle.deny_model.proofs.Agreement.{TwoFacts}
-use Rattle.deny_model.specs.Graph.{Crate, Graph, kid_of}
-use Rattle.deny_model.specs.Hits.{all_hits, hit_of, root_hit, skip_hit, wrapper_hit}
-use Rattle.deny_model.specs.Licensing.{Licensing}
-use Rattle.deny_model.specs.Match.{matches}
-use Rattle.deny_model.specs.Policy.{Entry, Policy}
-use Rattle.deny_model.specs.Skips.{is_skipped}
-use Rattle.deny_model.specs.Facts as chains
-use Rattle.deny_model.specs.View.{View}
-use Rattle.deny_codes.specs.Circumstances.{Circumstances, seen_anew}
-use Rattle.deny_codes.specs.Facts.{Facts, AreFacts}
-use Rattle.deny_codes.specs.Hits.{TellsLicensed, both_hits, hits_in, licence_hits_in}
-use Rattle.deny_codes.specs.Licences.{Asked, TellsCounting, allowance_hit, asked_in, exception_hit, first_hit}
-use Rattle.deny_codes.specs.Licences.{hits_by, is_looked_at, is_passed_over, licence_hits}
-use Rattle.deny_codes.specs.Packages.{Looking, bypass_hits, bypass_hits_in, bypass_hits_of, looking}
-use Rattle.deny_codes.specs.StdReplacements.{ignore_hits_in}
-use Rattle.deny_codes.proofs.BuildAlike.{hits_of_builds_alike}
-use Rattle.deny_codes.proofs.Kept.{filter_fails_on}
+use Rattle.deny_spec.specs.Building.{Building, Bypass}
+use Rattle.deny_spec.specs.declared.package.Package.{Package}
+use Rattle.deny_spec.proofs.Agreement.{TwoFacts}
+use Rattle.deny_spec.specs.Graph.{Crate, Graph, kid_of}
+use Rattle.deny_spec.specs.Hits.{all_hits, hit_of, root_hit, skip_hit, wrapper_hit}
+use Rattle.deny_spec.specs.Licensing.{Licensing}
+use Rattle.deny_spec.specs.Match.{matches}
+use Rattle.deny_spec.specs.Policy.{Entry, Policy}
+use Rattle.deny_spec.specs.Skips.{is_skipped}
+use Rattle.deny_spec.specs.Facts as chains
+use Rattle.deny_spec.specs.View.{View}
+use Rattle.deny_spec_report.specs.Circumstances.{Circumstances, seen_anew}
+use Rattle.deny_spec_report.specs.Facts.{Facts, AreFacts}
+use Rattle.deny_spec_report.specs.Hits.{TestsLicensed, both_hits, hits_in, licence_hits_in}
+use Rattle.deny_spec_report.specs.Licences.{Asked, TestsCounting, allowance_hit, asked_in, exception_hit, first_hit}
+use Rattle.deny_spec_report.specs.Licences.{hits_by, is_scanned, is_passed_over, licence_hits}
+use Rattle.deny_spec_report.specs.Packages.{Scanning, bypass_hits, bypass_hits_in, bypass_hits_of, scanning}
+use Rattle.deny_spec_report.specs.StdReplacements.{ignore_hits_in}
+use Rattle.deny_spec_report.proofs.BuildAlike.{hits_of_builds_alike}
+use Rattle.deny_spec_report.proofs.Kept.{filter_fails_on}
 use Rattle.deny_gate.specs.Unseeing.{is_free_kind, unseeing_hits}
 use Rattle.deny_gate.proofs.BypassHits.{IsHitOf, hit_of_one, kinds_of}
 
@@ -41,7 +41,7 @@ skip_alike : (p : Policy) (g : Graph) (these those : chains.Facts) → TwoFacts 
     → skip_hit g these s ≡ skip_hit g those s
 unfolding skip_hit is_skipped
 skip_alike p g these those both s =
-    ap (option_map (λ (c : Crate). hit_of kind.Skip s.spec.range (Krate (kid_of c))))
+    ap (option_map (λ (c : Crate). hit_of kind.Skip s.spec.span (Krate (kid_of c))))
     (find_on (is_skipped these s) (is_skipped those s) g.crates
     (λ c known. ap (λ (b : Bool). b && matches s.spec c)
     (same_test (these.counts c) (those.counts c) (both.left.counts c known) (both.right.counts c known))))
@@ -65,13 +65,13 @@ bans_alike c these those are too =
 
 -- ---- licences, by the crates that the check runs over
 
-module _ (l : Licensing) (g : Graph) (one other : Crate → Bool) (tells : TellsCounting l g one)
-    (tells_too : TellsCounting l g other) where
+module _ (l : Licensing) (g : Graph) (one other : Crate → Bool) (reports : TestsCounting l g one)
+    (reports_too : TestsCounting l g other) where
   first_alike : (grants : Asked → Bool) → first_hit one l g grants ≡ first_hit other l g grants
-  unfolding first_hit hits_by is_looked_at
+  unfolding first_hit hits_by is_scanned
   first_alike grants = find_on (hits_by one l grants) (hits_by other l grants) g.crates
       (λ c known. ap (λ (b : Bool). (b && not (is_passed_over l c)) && list_any grants (asked_in c))
-      (same_test (one c) (other c) (tells c known) (tells_too c known)))
+      (same_test (one c) (other c) (reports c known) (reports_too c known)))
 
   granted_alike : licence_hits one l g ≡ licence_hits other l g
   unfolding allowance_hit exception_hit
@@ -83,20 +83,21 @@ module _ (l : Licensing) (g : Graph) (one other : Crate → Bool) (tells : Tells
       (filter_map_on (exception_hit one l g) (exception_hit other l g) l.exceptions
       (λ e written. ap (option_map _) (first_alike _)))
 
-licences_alike : (licensing : Option Licensing) (g : Graph) (one other : Crate → Bool) → TellsLicensed licensing g one
-    → TellsLicensed licensing g other
+licences_alike : (licensing : Option Licensing) (g : Graph) (one other : Crate → Bool) → TestsLicensed licensing g one
+    → TestsLicensed licensing g other
     → option_map_or (λ l. licence_hits one l g) licensing [] ≡ option_map_or (λ l. licence_hits other l g) licensing []
-licences_alike None g one other tells tells_too = refl
-licences_alike (Some l) g one other tells tells_too = granted_alike l g one other tells tells_too
+licences_alike None g one other reports reports_too = refl
+licences_alike (Some l) g one other reports reports_too = granted_alike l g one other reports reports_too
 
 pub hits_alike : (c : Circumstances) (these those : Facts) (one other : Crate → Bool) → AreFacts c these
-    → AreFacts c those → TellsLicensed c.licensing c.graph one → TellsLicensed c.licensing c.graph other
+    → AreFacts c those → TestsLicensed c.licensing c.graph one → TestsLicensed c.licensing c.graph other
     → both_hits c these one ≡ both_hits c those other
-hits_alike c these those one other are too tells tells_too =
+hits_alike c these those one other are too reports reports_too =
     ap (λ (hits : List Hit). hits ++ licence_hits_in one c) (bans_alike c these those are too)
-    ∙ ap (λ (hits : List Hit). hits_in c those ++ hits) (licences_alike c.licensing c.graph one other tells tells_too)
+    ∙ ap (λ (hits : List Hit). hits_in c those ++ hits) (licences_alike c.licensing c.graph one other reports
+    reports_too)
 
--- ---- hits that ask nothing of files
+-- ---- hits that depend on no files
 
 abbrev is_free_hit : Hit → Bool
 is_free_hit h = is_free_kind h.entry.kind
@@ -113,20 +114,20 @@ kind_sees kind.ReplacementIgnore between = absurd (omega (arith, between.1))
 kind_sees kind.LicenseAllow between = absurd (omega (arith, between.1))
 kind_sees kind.LicenseException between = absurd (omega (arith, between.1))
 
--- those of bypasses do
-seeing_hit : (l : Looking) (y : Bypass) (h : Hit) → IsHitOf l y h → is_free_hit h ≡ false
+-- hits of bypasses depend on files
+seeing_hit : (l : Scanning) (y : Bypass) (h : Hit) → IsHitOf l y h → is_free_hit h ≡ false
 seeing_hit l y h of = kind_sees h.entry.kind (kinds_of l y h of)
 
 sees_bypasses : (c : Circumstances) (facts : Facts) (h : Hit) → Contains (bypass_hits_in c facts) h
     → is_free_hit h ≡ false
 sees_bypasses c facts h at = by c.building at
   where
-    by : (o : Option Building) → Contains (option_map_or (λ b. bypass_hits (looking c facts b)) o []) h
+    by : (o : Option Building) → Contains (option_map_or (λ b. bypass_hits (scanning c facts b)) o []) h
         → is_free_hit h ≡ false
     by None at = absurd (no_member h at)
     by (Some b) at =
-        let from = Contains-from_flat_map (bypass_hits_of (looking c facts b)) b.bypass h at in
-        seeing_hit (looking c facts b) from.from h (hit_of_one (looking c facts b) from.from h from.of)
+        let from = Contains-from_flat_map (bypass_hits_of (scanning c facts b)) b.bypass h at in
+        seeing_hit (scanning c facts b) from.from h (hit_of_one (scanning c facts b) from.from h from.of)
 
 without_seeing : (all ignored seeing licensed : List Hit) → unseeing_hits seeing ≡ []
     → unseeing_hits ((all ++ (ignored ++ seeing)) ++ licensed) ≡ unseeing_hits ((all ++ ignored) ++ licensed)
@@ -141,7 +142,7 @@ without_seeing all ignored seeing licensed none =
     ∙ (ap (λ (hits : List Hit). hits ++ free licensed) middle
     ∙ sym (filter-append is_free_hit (all ++ ignored) licensed))
 
--- so the others are the same whatever was seen of manifests and packages
+-- all other hits are the same whatever was seen of manifests and packages
 pub unseeing_alike : (c : Circumstances) (view : View) (packages : List Package) (facts : Facts) (counts : Crate → Bool)
     → unseeing_hits (both_hits c facts counts) ≡ unseeing_hits (both_hits (seen_anew c view packages) facts counts)
 unseeing_alike c view packages facts counts =

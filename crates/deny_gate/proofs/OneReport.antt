@@ -1,5 +1,5 @@
--- Texts have one report on a disk that tells its files; by what was seen they are told alike on every disk, and what
--- asks nothing of files whatever was seen.
+-- Inputs have one report on a disk that tells its files; what was seen determines the findings on every disk, and
+-- findings that depend on no files are the same whatever was seen.
 use Rattle.std.proofs.Common.{◌≡◌, ◌∙◌, ◌++◌, ◌<◌, ℕ, Bool, true, false, List, [], ◌∷◌, Option, None, Some, map, ap}
 use Rattle.std.proofs.Common.{refl, sym, subst, arith}
 use Rattle.std.specs.Prelude.{Contains, IsTrue, filter, is_some}
@@ -13,54 +13,54 @@ use Rattle.deny_base.specs.declared.files.File.{File}
 use Rattle.deny_base.specs.declared.key.Key.{Key}
 use Rattle.deny_base.proofs.EdgeEqual.{edge_cmp-total}
 use Rattle.deny_base.proofs.EntryEqual.{entry_cmp-total}
-use Rattle.deny_lists.proofs.Agreement.{filter_on, map_on}
-use Rattle.deny_lists.proofs.Filters.{filter-map}
-use Rattle.deny_lists.proofs.Members.{Contains-filter, filtered, passes_filter}
-use Rattle.deny_lists.proofs.Sorted.{one_ascending, one_list}
-use Rattle.deny_lists.proofs.Equalities.{subst₃}
-use Rattle.deny_build_model.specs.Building.{Building}
-use Rattle.deny_build_model.specs.declared.package.Package.{Package}
+use Rattle.deny_base_lists.proofs.Agreement.{filter_on, map_on}
+use Rattle.deny_base_lists.proofs.Filters.{filter-map}
+use Rattle.deny_base_lists.proofs.Members.{Contains-filter, filtered, passes_filter}
+use Rattle.deny_base_lists.proofs.Sorted.{one_ascending, one_list}
+use Rattle.deny_base_lists.proofs.Equalities.{subst₃}
+use Rattle.deny_spec.specs.Building.{Building}
+use Rattle.deny_spec.specs.declared.package.Package.{Package}
 use Rattle.deny_cfg.specs.LicensingView.{licensing_of}
 use Rattle.deny_cfg.specs.PolicyText.{IsPolicyOf, globs_files, policy_file}
 use Rattle.deny_cfg.specs.PolicyView.{building_of, builtin_file_of, policy_view}
 use Rattle.deny_cfg.specs.declared.policy.Policy as cfg
-use Rattle.deny_model.specs.Graph.{Graph}
-use Rattle.deny_model.specs.Policy.{Policy}
-use Rattle.deny_model.specs.View.{View}
-use Rattle.deny_outside.specs.Disk.{Files}
-use Rattle.deny_dup_edges.specs.DupEdges.{AreEdgesOf, IsSetOf, IsSimplest, ShowsEach, Simplest, is_of_duplicate}
-use Rattle.deny_dup_edges.specs.declared.dup_edges.DupEdges.{DupEdges}
-use Rattle.deny_dup_edges.specs.declared.dup_edges.DupSet.{DupSet}
-use Rattle.deny_codes.specs.Circumstances.{Circumstances, seen_anew}
-use Rattle.deny_codes.specs.Codes.{unseeing}
-use Rattle.deny_codes.specs.Hits.{both_hits}
-use Rattle.deny_codes.specs.Standing.{AreKeys}
-use Rattle.deny_codes.specs.Told.{check_told, diag_of, words_told}
-use Rattle.deny_codes.specs.declared.words.Words.{Words}
-use Rattle.deny_laws.specs.Dead.{AreDead}
-use Rattle.deny_packages.specs.Failures.{failures_in}
-use Rattle.deny_packages.specs.OneSight.{HasOneSight}
+use Rattle.deny_spec.specs.Graph.{Graph}
+use Rattle.deny_spec.specs.Policy.{Policy}
+use Rattle.deny_spec.specs.View.{View}
+use Rattle.deny_base_disk.specs.Disk.{Files}
+use Rattle.deny_rules_dup_edges.specs.DupEdges.{AreEdgesOf, IsDupSetOf, IsSimplest, ShowsEach, Simplest, is_of_duplicate}
+use Rattle.deny_rules_dup_edges.specs.declared.dup_edges.DupEdges.{DupEdges}
+use Rattle.deny_rules_dup_edges.specs.declared.dup_edges.DupSet.{DupSet}
+use Rattle.deny_spec_report.specs.Circumstances.{Circumstances, seen_anew}
+use Rattle.deny_spec_report.specs.Codes.{unseeing}
+use Rattle.deny_spec_report.specs.Hits.{both_hits}
+use Rattle.deny_spec_report.specs.Holding.{AreKeys}
+use Rattle.deny_spec_report.specs.Diags.{check_of_code, diag_of, key_message}
+use Rattle.deny_spec_report.specs.declared.message.Message.{Message}
+use Rattle.deny_spec_removal.specs.Dead.{AreDead}
+use Rattle.deny_build_scan.specs.Failures.{failures_in}
+use Rattle.deny_build_scan.specs.OneSight.{HasOneSight}
 use Rattle.deny_rules.specs.Packages.{AreSeenBy}
 use Rattle.deny_spans.specs.Seen.{IsSeen, lock_file}
 use Rattle.deny_spans.proofs.OneViewLemmas.{same_seen}
-use Rattle.deny_unread.specs.declared.unread.Unread.{Unread}
-use Rattle.deny_gate.specs.Gating.{AreAlikeUnseen, AreToldAlike, IsReportBy, IsReportOf, Saying, Texts}
+use Rattle.deny_base.specs.declared.unread.Unread.{Unread}
+use Rattle.deny_gate.specs.Gating.{AreAlikeUnseen, AreReportedAlike, IsReportBy, IsReportOf, Saying, InputTexts}
 use Rattle.deny_gate.specs.Gating.{circumstances_of, circumstances_on, first_files, saying_of}
 use Rattle.deny_gate.specs.Hits.{AreHits, entry_of, hit_cmp}
-use Rattle.deny_gate.specs.Report.{IsReport, finding_told, policy_id, verdict_of}
+use Rattle.deny_gate.specs.Report.{IsReport, finding_for, policy_id, verdict_of}
 use Rattle.deny_gate.specs.Stats.{all_stats}
 use Rattle.deny_gate.specs.Unread.{of_manifests, of_packages}
 use Rattle.deny_gate.specs.Unseeing.{is_free_kind, unseeing_findings, unseeing_hits}
 use Rattle.deny_gate.specs.declared.report.Finding.{Finding}
 use Rattle.deny_gate.specs.declared.report.Report.{Report}
-use Rattle.deny_gate.proofs.FindingLaws.{key_told}
+use Rattle.deny_gate.proofs.FindingLaws.{key_of_finding}
 use Rattle.deny_gate.proofs.IdsApart.{ids_apart}
 use Rattle.deny_gate.proofs.OneGraph.{one_graph}
 use Rattle.deny_gate.proofs.OneHits.{hits_alike, unseeing_alike}
-use Rattle.deny_gate.proofs.Standing.{duplicates_seen}
+use Rattle.deny_gate.proofs.FindingKeys.{duplicates_seen}
 use Rattle.deny_gate.proofs.Unseeing.{dead_unseen}
 
--- what determines each of its items determines the list
+-- a relation that determines each item determines the list
 one_zip : {A B : Type 0} (R : A → B → Type 0) → ((x : A) (y z : B) → R x y → R x z → y ≡ z)
     → (xs : List A) (ys zs : List B) → AllZip R xs ys → AllZip R xs zs → ys ≡ zs
 one_zip R one [] [] [] these those = refl
@@ -75,14 +75,14 @@ one_zip R one (x ∷ xs) (y ∷ ys) (z ∷ zs) these those =
 
 -- ---- what is shown of duplicates
 
-one_set : (g : Graph) (edges : List Edge) (place : ℕ) (s t : DupSet) → IsSetOf g edges place s → IsSetOf g edges place t
+one_set : (g : Graph) (edges : List Edge) (place : ℕ) (s t : DupSet) → IsDupSetOf g edges place s → IsDupSetOf g edges place t
     → s ≡ t
 one_set g edges place s t this that =
     let places : s.place ≡ t.place = this.of_crate ∙ sym that.of_crate in
     let numbers : s.edges ≡ t.edges = one_list nat_cmp_total s.edges t.edges this.numbers that.numbers in
     λ i. record { place = places i; edges = numbers i }
 
--- of two simplest sets none comes first
+-- neither of two simplest sets comes before the other
 not_later : (sets : List DupSet) (m n : ℕ) → IsSimplest sets m → IsSimplest sets n → m < n → ⊥
 not_later sets m n this that before = omega (
   arith,
@@ -109,8 +109,8 @@ one_shown p g key s t this that =
     let name : s.name ≡ t.name = this.name ∙ sym that.name in
     let edges : s.edges ≡ t.edges = one_list edge_cmp-total s.edges t.edges this.edges that.edges in
     let sets : s.sets ≡ t.sets =
-    one_zip (IsSetOf g t.edges) (one_set g t.edges) key.places s.sets t.sets
-    (subst (λ (es : List Edge). AllZip (IsSetOf g es) key.places s.sets) edges this.sets) that.sets in
+    one_zip (IsDupSetOf g t.edges) (one_set g t.edges) key.places s.sets t.sets
+    (subst (λ (es : List Edge). AllZip (IsDupSetOf g es) key.places s.sets) edges this.sets) that.sets in
     let simplest : s.simplest ≡ t.simplest = same_simplest p.simplest t.sets s.simplest t.simplest
     (subst (λ (ss : List DupSet). Simplest p.simplest ss s.simplest) sets this.simplest) that.simplest in
     let lowest : s.lowest ≡ t.lowest = this.lowest ∙ sym that.lowest in
@@ -118,13 +118,13 @@ one_shown p g key s t this that =
 
 -- ---- the report
 
--- what is known of reports, policies and what is seen of files
+-- the laws on reports, policies and what is seen of files
 pub record ReportLaws : Type 0 where
   pub keys : (c : Circumstances) → (xs ys : List Key) → AreKeys c xs → AreKeys c ys → xs ≡ ys
   pub unseen : (c : Circumstances) → (view : View) → (packages : List Package) → (xs ys : List Key) → AreKeys c xs
       → AreKeys (seen_anew c view packages) ys → unseeing xs ≡ unseeing ys
   pub words : (c : Circumstances) → (view : View) → (packages : List Package) → (key : Key)
-      → IsTrue (asks_no_file key.code) → words_told (seen_anew c view packages) key ≡ words_told c key
+      → IsTrue (asks_no_file key.code) → key_message (seen_anew c view packages) key ≡ key_message c key
   pub policies : (text : List ℕ) → (file : ℕ) → (a b : cfg.Policy) → IsPolicyOf text file a → IsPolicyOf text file b
       → policy_view a.bans ≡ policy_view b.bans
   pub buildings : (text : List ℕ) → (file : ℕ) → (a b : cfg.Policy) → IsPolicyOf text file a → IsPolicyOf text file b
@@ -135,17 +135,17 @@ pub record ReportLaws : Type 0 where
       → licensing_of a.licenses ≡ licensing_of b.licenses
   pub sight : (b : Building) → (g : Graph) → HasOneSight b g
 
--- the finding of a key by its words
-abbrev finding_by : Key → Words → Finding
-finding_by key words = record { check = check_told key.code; kid = words.krate; diag = diag_of key words }
+-- the finding of a key by its message
+abbrev finding_by : Key → Message → Finding
+finding_by key words = record { check = check_of_code key.code; kid = words.krate; diag = diag_of key words }
 
-finding_is : (c : Circumstances) (key : Key) → finding_told c key ≡ finding_by key (words_told c key)
-unfolding finding_told
+finding_is : (c : Circumstances) (key : Key) → finding_for c key ≡ finding_by key (key_message c key)
+unfolding finding_for
 finding_is c key = refl
 
--- ---- by one view
+-- ---- reports by one view
 
--- what is shown of duplicates, by keys of which these are the same
+-- what is shown of duplicates, by keys with the same duplicates
 one_dup_edges : (c : Circumstances) (xs ys : List Key) (a b : List DupEdges)
     → filter is_of_duplicate xs ≡ filter is_of_duplicate ys
     → ShowsEach c.policy c.graph (filter is_of_duplicate xs) a
@@ -159,13 +159,13 @@ one_hits c a b this that =
     one_list (on_total entry_of entry_cmp-total) a.hits b.hits
     (subst (λ (all : List Hit). AreHits all a.hits)
     (hits_alike c this.listed.facts that.listed.facts this.counts that.counts this.listed.true_facts
-    that.listed.true_facts this.tells that.tells) this.hits) that.hits
+    that.listed.true_facts this.reports that.reports) this.hits) that.hits
 
--- reports of the same keys
-told_alike : (c : Circumstances) (a b : Report) (this : IsReport c a) (that : IsReport c b) → this.keys ≡ that.keys
-    → AreToldAlike a b
-told_alike c a b this that keys =
-    let findings : a.findings ≡ b.findings = this.told ∙ (ap (map (finding_told c)) keys ∙ sym that.told) in
+-- reports with the same keys are equal but for what could not be read
+reported_alike : (c : Circumstances) (a b : Report) (this : IsReport c a) (that : IsReport c b) → this.keys ≡ that.keys
+    → AreReportedAlike a b
+reported_alike c a b this that keys =
+    let findings : a.findings ≡ b.findings = this.findings ∙ (ap (map (finding_for c)) keys ∙ sym that.findings) in
     let hits : a.hits ≡ b.hits = one_hits c a b this that in
     record {
       krates = this.graph ∙ sym that.graph;
@@ -180,8 +180,9 @@ told_alike c a b this that keys =
       verdict = this.verdict ∙ (ap verdict_of findings ∙ sym that.verdict);
     }
 
--- reports that tell the same, with the same files, are one
-one_of : (a b : Report) → AreToldAlike a b → a.files ≡ b.files → a.unread ≡ b.unread → a.malformed ≡ b.malformed → a ≡ b
+-- reports that are equal but for what could not be read are equal, where that is equal too
+one_of : (a b : Report) → AreReportedAlike a b → a.files ≡ b.files → a.unread ≡ b.unread → a.malformed ≡ b.malformed
+    → a ≡ b
 one_of a b alike files unread malformed = λ i. record {
   files = files i;
   krates = alike.krates i;
@@ -195,12 +196,12 @@ one_of a b alike files unread malformed = λ i. record {
   verdict = alike.verdict i;
 }
 
--- ---- by whatever view
+-- ---- reports by different views
 
 abbrev is_free : Hit → Bool
 is_free h = is_free_kind h.entry.kind
 
--- the hits that ask nothing of files
+-- the hits that depend on no files
 free_hits : (c : Circumstances) (view : View) (packages : List Package) (a b : Report) → IsReport c a
     → IsReport (seen_anew c view packages) b → unseeing_hits a.hits ≡ unseeing_hits b.hits
 free_hits c view packages a b this that =
@@ -210,7 +211,7 @@ free_hits c view packages a b this that =
     unseeing_alike c view packages this.listed.facts this.counts
     ∙ ap unseeing_hits (hits_alike d this.listed.facts that.listed.facts this.counts that.counts
     (record { chains = this.listed.true_facts.chains; reached = this.listed.true_facts.reached })
-    that.listed.true_facts this.tells that.tells) in
+    that.listed.true_facts this.reports that.reports) in
     one_ascending (on_total entry_of entry_cmp-total) (unseeing_hits a.hits) (unseeing_hits b.hits)
     (IsStrictlySortedBy-filter hit_cmp is_free a.hits this.hits.ascending)
     (IsStrictlySortedBy-filter hit_cmp is_free b.hits that.hits.ascending)
@@ -226,9 +227,9 @@ free_hits c view packages a b this that =
         Contains-filter is_free ys h (those.whole h (filtered is_free others h there)) free
 
 module _ (laws : ReportLaws) where
-  -- ---- in the same circumstances
+  -- ---- reports in the same circumstances
 
-  same_saying : (texts : Texts) (a b : cfg.Policy) → IsPolicyOf texts.policy policy_id a
+  same_saying : (texts : InputTexts) (a b : cfg.Policy) → IsPolicyOf texts.policy policy_id a
       → IsPolicyOf texts.policy policy_id b → saying_of a ≡ saying_of b
   same_saying texts a b this that =
       let policies = laws.policies texts.policy policy_id a b this that in
@@ -237,8 +238,8 @@ module _ (laws : ReportLaws) where
       let globs = laws.globs texts.policy policy_id a b this that in
       λ i. record { policy = policies i; licensing = licences i; building = buildings i; globs = globs i }
 
-  -- the first report in the circumstances of the second, but by what was seen for it
-  moved : (told other : Option Files) (texts : Texts) (view otherwise : View) (packages others : List Package)
+  -- the first report in the circumstances of the second, except for what was seen
+  moved : (told other : Option Files) (texts : InputTexts) (view otherwise : View) (packages others : List Package)
       (a b : Report) (this : IsReportBy told texts view packages a) (that : IsReportBy other texts otherwise others b)
       → IsReport (circumstances_of that.said that.graph texts.replacements view packages) a
   moved told other texts view otherwise packages others a b this that =
@@ -247,28 +248,28 @@ module _ (laws : ReportLaws) where
       (subst (λ (g : Graph). IsReport (circumstances_of this.said g texts.replacements view packages) a)
       (one_graph texts.metadata this.graph that.graph this.is_graph that.is_graph) this.is_report)
 
-  pub by_view : (told other : Option Files) (texts : Texts) (view : View) (packages : List Package) (a b : Report)
-      → IsReportBy told texts view packages a → IsReportBy other texts view packages b → AreToldAlike a b
+  pub by_view : (told other : Option Files) (texts : InputTexts) (view : View) (packages : List Package) (a b : Report)
+      → IsReportBy told texts view packages a → IsReportBy other texts view packages b → AreReportedAlike a b
   by_view told other texts view packages a b this that =
       let c = circumstances_of that.said that.graph texts.replacements view packages in
       let first : IsReport c a = moved told other texts view view packages packages a b this that in
-      told_alike c a b first that.is_report
+      reported_alike c a b first that.is_report
       (laws.keys c first.keys that.is_report.keys first.listed that.is_report.listed)
 
-  -- ---- by whatever was seen
+  -- ---- reports by different sights of files
 
   kept_findings : (c : Circumstances) (keys : List Key)
-      → unseeing_findings (map (finding_told c) keys) ≡ map (finding_told c) (unseeing keys)
+      → unseeing_findings (map (finding_for c) keys) ≡ map (finding_for c) (unseeing keys)
   kept_findings c keys =
-      filter-map (λ (f : Finding). asks_no_file f.diag.key.code) (finding_told c) keys
-      ∙ ap (map (finding_told c)) (filter_on (λ (key : Key). asks_no_file (finding_told c key).diag.key.code)
+      filter-map (λ (f : Finding). asks_no_file f.diag.key.code) (finding_for c) keys
+      ∙ ap (map (finding_for c)) (filter_on (λ (key : Key). asks_no_file (finding_for c key).diag.key.code)
       (λ (key : Key). asks_no_file key.code) keys
-      (λ key at. ap (λ (k : Key). asks_no_file k.code) (key_told c key)))
+      (λ key at. ap (λ (k : Key). asks_no_file k.code) (key_of_finding c key)))
 
-  words_alike : (c : Circumstances) (view : View) (packages : List Package) (keys : List Key)
-      → map (finding_told c) (unseeing keys) ≡ map (finding_told (seen_anew c view packages)) (unseeing keys)
-  words_alike c view packages keys =
-      map_on (finding_told c) (finding_told (seen_anew c view packages)) (unseeing keys)
+  messages_alike : (c : Circumstances) (view : View) (packages : List Package) (keys : List Key)
+      → map (finding_for c) (unseeing keys) ≡ map (finding_for (seen_anew c view packages)) (unseeing keys)
+  messages_alike c view packages keys =
+      map_on (finding_for c) (finding_for (seen_anew c view packages)) (unseeing keys)
       (λ key at. finding_is c key
       ∙ (ap (finding_by key)
       (sym (laws.words c view packages key (passes_filter (λ (k : Key). asks_no_file k.code) keys key at)))
@@ -283,9 +284,9 @@ module _ (laws : ReportLaws) where
       let hits : unseeing_hits a.hits ≡ unseeing_hits b.hits = free_hits c view packages a b this that in
       record {
         krates = this.graph ∙ sym that.graph;
-        findings = ap unseeing_findings this.told ∙ (kept_findings c this.keys
-            ∙ (ap (map (finding_told c)) free ∙ (words_alike c view packages that.keys
-            ∙ (sym (kept_findings d that.keys) ∙ ap unseeing_findings (sym that.told)))));
+        findings = ap unseeing_findings this.findings ∙ (kept_findings c this.keys
+            ∙ (ap (map (finding_for c)) free ∙ (messages_alike c view packages that.keys
+            ∙ (sym (kept_findings d that.keys) ∙ ap unseeing_findings (sym that.findings)))));
         dup_edges = one_dup_edges c this.keys that.keys a.dup_edges b.dup_edges
             (duplicates_seen this.keys ∙ (ap (filter is_of_duplicate) free ∙ sym (duplicates_seen that.keys)))
             this.shown that.shown;
@@ -293,29 +294,29 @@ module _ (laws : ReportLaws) where
         dead = dead_unseen this.keys that.keys a.hits b.hits a.dead b.dead free hits this.dead that.dead;
       }
 
-  pub by_any : (told other : Option Files) (texts : Texts) (a b : Report) → IsReportOf told texts a
+  pub by_any : (told other : Option Files) (texts : InputTexts) (a b : Report) → IsReportOf told texts a
       → IsReportOf other texts b → AreAlikeUnseen a b
   by_any told other texts a b this that =
       unseen_alike (circumstances_of that.by.said that.by.graph texts.replacements this.view this.packages) that.view
       that.packages a b
       (moved told other texts this.view that.view this.packages that.packages a b this.by that.by) that.by.is_report
 
-  -- ---- on a disk that tells its files
+  -- ---- reports on a disk that tells its files
 
-  -- what was seen of packages is one, where what could not be read is, and how that failed
+  -- what could not be read of packages, and how that failed, determine what was seen of them
   same_packages : (files : Files) (building : Option Building) (home : Option (List ℕ)) (g : Graph)
       (unread : List Unread) (packages others : List Package) → AreSeenBy (Some files) building home g unread packages
       → AreSeenBy (Some files) building home g unread others → failures_in packages ≡ failures_in others
       → packages ≡ others
   same_packages files None home g unread packages others this that failures = this.1 ∙ sym that.1
   same_packages files (Some b) home g unread packages others this that failures =
-      laws.sight b g files this.reached that.reached home unread packages others this.tells that.tells this.seen
+      laws.sight b g files this.reached that.reached home unread packages others this.reports that.reports this.seen
       that.seen failures
 
-  pub by_told : (files : Files) (texts : Texts) (a b : Report) (this : IsReportOf (Some files) texts a)
+  pub by_files : (files : Files) (texts : InputTexts) (a b : Report) (this : IsReportOf (Some files) texts a)
       (that : IsReportOf (Some files) texts b) → a.unread ≡ b.unread
       → failures_in this.packages ≡ failures_in that.packages → a ≡ b
-  by_told files texts a b this that unread failures =
+  by_files files texts a b this that unread failures =
       let graphs : this.by.graph ≡ that.by.graph =
       one_graph texts.metadata this.by.graph that.by.graph this.by.is_graph that.by.is_graph in
       let saying = same_saying texts this.by.said that.by.said this.by.is_said that.by.is_said in
@@ -330,24 +331,24 @@ module _ (laws : ReportLaws) where
       (ids_apart texts.metadata that.by.graph that.by.is_graph)
       (first_files texts.policy that.by.said that.by.graph) (of_manifests b.unread)
       a.files b.files a.malformed b.malformed this.view that.view seen that.by.seen in
-      let looked : AreSeenBy (Some files) (building_of that.by.said.bans) texts.home that.by.graph
+      let scan : AreSeenBy (Some files) (building_of that.by.said.bans) texts.home that.by.graph
       (of_packages b.unread) this.packages =
       subst₃ (λ (g : Graph) (said : Saying) (us : List Unread). AreSeenBy (Some files) said.building texts.home g
-      (of_packages us) this.packages) graphs saying unread this.by.looked_at in
+      (of_packages us) this.packages) graphs saying unread this.by.packages_seen in
       let packages = same_packages files (building_of that.by.said.bans) texts.home that.by.graph
-      (of_packages b.unread) this.packages that.packages looked that.by.looked_at failures in
+      (of_packages b.unread) this.packages that.packages scan that.by.packages_seen failures in
       one_of a b
       (by_view (Some files) (Some files) texts that.view that.packages a b
       (subst (λ (ps : List Package). IsReportBy (Some files) texts that.view ps a) packages
       (subst (λ (view : View). IsReportBy (Some files) texts view this.packages a) same.seen this.by)) that.by)
       same.files unread same.paths
 
--- without what a policy says of builds no package is looked at, and so nothing failed there
-pub nothing_failed : (told : Option Files) (texts : Texts) (report : Report) (of : IsReportOf told texts report)
+-- where the policy says nothing of builds no package is walked, and so no call on it failed
+pub nothing_failed : (told : Option Files) (texts : InputTexts) (report : Report) (of : IsReportOf told texts report)
     → building_of of.by.said.bans ≡ None → failures_in of.packages ≡ []
 nothing_failed told texts report of none =
     let seen : AreSeenBy told None texts.home of.by.graph (of_packages report.unread) of.packages =
     subst (λ (o : Option Building). AreSeenBy told o texts.home of.by.graph (of_packages report.unread) of.packages)
     none
-    of.by.looked_at in
+    of.by.packages_seen in
     ap failures_in seen.1

@@ -1,4 +1,4 @@
--- Without bypasses, paths and globs that nothing hits the same is seen of packages, and the same could not be read.
+-- Without bypasses, paths and globs that have no hit, the same is seen of packages, and the same could not be read.
 use Rattle.std.proofs.Common.{◌≡◌, ◌∙◌, ◌++◌, ◌∷◌, ℕ, suc, Bool, true, false, List, [], Option, None, Some, ap}
 use Rattle.std.proofs.Common.{inl, inr, map, not, refl, subst, sym}
 use Rattle.std.specs.Prelude.{Contains, filter, if◌then◌else◌, option_map, slice_get}
@@ -6,45 +6,47 @@ use Rattle.std.specs.List.{AllZip}
 use Rattle.std.specs.Option.{option_map_or}
 use Rattle.std.proofs.lemmas.Bool.{cases_Bool}
 use Rattle.std.proofs.lemmas.Slice.Eq.{bytes_eq-Decides}
-use Rattle.deny_lists.proofs.Members.{Contains-first, Contains-rest, any_from, from_there, no_member, there, zip_at}
+use Rattle.deny_base_lists.proofs.Members.{Contains-first, Contains-rest, any_from, from_there, no_member, there}
+use Rattle.deny_base_lists.proofs.Members.{zip_at}
 use Rattle.deny_base.specs.declared.entry.EntryId.{EntryId}
 use Rattle.deny_base.specs.declared.entry.Hit.{Hit}
-use Rattle.deny_build_model.specs.Building.{AllowedPath, Building, Bypass}
-use Rattle.deny_build_model.specs.Unseen.{package_at, unseen_package}
-use Rattle.deny_build_model.specs.declared.package.Package.{Package}
-use Rattle.deny_build_model.specs.declared.package.PackageFile.{PackageFile}
-use Rattle.deny_model.specs.Graph.{Crate, Target, kid_of}
-use Rattle.deny_model.specs.Hits.{all_hits}
-use Rattle.deny_model.specs.Policy as policy
-use Rattle.deny_model.specs.Text.{same_text}
-use Rattle.deny_outside.specs.Disk.{Files}
-use Rattle.deny_unread.specs.Unread.{is_unread}
-use Rattle.deny_unread.specs.declared.unread.Unread.{Unread}
-use Rattle.deny_codes.specs.BuildScripts.{is_walked, script_of, used}
-use Rattle.deny_codes.specs.Circumstances.{Circumstances}
-use Rattle.deny_codes.specs.Facts.{Facts, AreFacts}
-use Rattle.deny_codes.specs.Hits.{both_hits, licence_hits_in}
-use Rattle.deny_codes.specs.PackageFiles.{ByHeader, BySum, Step, globs_of, is_decided_by, leaves_to_globs, path_of_used}
-use Rattle.deny_codes.specs.PackageFiles.{step_of}
-use Rattle.deny_codes.specs.Packages.{looking, package_of, walks}
-use Rattle.deny_codes.specs.StdReplacements.{ignore_hits_in}
-use Rattle.deny_codes.proofs.BuildAlike.{hits_of_builds_alike}
-use Rattle.deny_laws.specs.Asking.{AreAskedAlike, PackagesStay}
-use Rattle.deny_laws.specs.Removal.{HaveNoHit, cut_building, cut_bypass, stays_glob}
-use Rattle.deny_laws.proofs.Asking.{walked_looked}
-use Rattle.deny_packages.specs.Deciding.{AreDeciding, own_texts}
-use Rattle.deny_packages.specs.Deciding.AreDeciding.{by_extension, by_glob, by_path, by_sum}
-use Rattle.deny_packages.specs.Globs.{AreFitting}
-use Rattle.deny_packages.specs.Globs.AreFitting.{fitting, none, other}
-use Rattle.deny_packages.specs.Seen.{AreBoth, ArePackagesSeen, IsFileSeen, IsFoundBy, IsPackageSeen}
-use Rattle.deny_packages.specs.Seen.{IsScriptSeen, IsWalkSeen, of_crate, script_asked}
-use Rattle.deny_packages.specs.Wanted.{AreWantedPackages, IsFileOf, IsWantedOf}
-use Rattle.deny_packages.specs.Wanted.IsWantedOf.{by_folder, by_header, by_script, by_sum as by_checksum}
-use Rattle.deny_packages.specs.Why.{IsOfPurpose, Why}
+use Rattle.deny_spec.specs.Building.{AllowedPath, Building, Bypass}
+use Rattle.deny_spec.specs.Unseen.{package_at, unseen_package}
+use Rattle.deny_spec.specs.declared.package.Package.{Package}
+use Rattle.deny_spec.specs.declared.package.PackageFile.{PackageFile}
+use Rattle.deny_spec.specs.Graph.{Crate, Target, kid_of}
+use Rattle.deny_spec.specs.Hits.{all_hits}
+use Rattle.deny_spec.specs.Policy as policy
+use Rattle.deny_spec.specs.Text.{same_text}
+use Rattle.deny_base_disk.specs.Disk.{Files}
+use Rattle.deny_base.specs.Unread.{is_unread}
+use Rattle.deny_base.specs.declared.unread.Unread.{Unread}
+use Rattle.deny_spec_report.specs.BuildScripts.{is_walked, script_of, used}
+use Rattle.deny_spec_report.specs.Circumstances.{Circumstances}
+use Rattle.deny_spec_report.specs.Facts.{Facts, AreFacts}
+use Rattle.deny_spec_report.specs.Hits.{both_hits, licence_hits_in}
+use Rattle.deny_spec_report.specs.PackageFiles.{ByHeader, BySum, Step, globs_of, is_decided_by, leaves_to_globs}
+use Rattle.deny_spec_report.specs.PackageFiles.{path_of_used}
+use Rattle.deny_spec_report.specs.PackageFiles.{step_of}
+use Rattle.deny_spec_report.specs.Packages.{scanning, package_of, walks}
+use Rattle.deny_spec_report.specs.StdReplacements.{ignore_hits_in}
+use Rattle.deny_spec_report.proofs.BuildAlike.{hits_of_builds_alike}
+use Rattle.deny_spec_removal.specs.Asking.{AreAskedAlike, PackagesStay}
+use Rattle.deny_spec_removal.specs.Removal.{HaveNoHit, cut_building, cut_bypass, stays_glob}
+use Rattle.deny_spec_removal.proofs.Asking.{walked_scanned}
+use Rattle.deny_build_scan.specs.Deciding.{AreDeciding, own_texts}
+use Rattle.deny_build_scan.specs.Deciding.AreDeciding.{by_extension, by_glob, by_path, by_sum}
+use Rattle.deny_build_scan.specs.Globs.{AreFitting}
+use Rattle.deny_build_scan.specs.Globs.AreFitting.{fitting, none, other}
+use Rattle.deny_build_scan.specs.Seen.{AreBoth, ArePackagesSeen, IsFileSeen, IsFoundBy, IsPackageSeen}
+use Rattle.deny_build_scan.specs.Seen.{IsScriptSeen, IsWalkSeen, of_crate, script_asked}
+use Rattle.deny_build_scan.specs.Wanted.{AreWantedPackages, IsFileOf, IsWantedOf}
+use Rattle.deny_build_scan.specs.Wanted.IsWantedOf.{by_folder, by_header, by_script, by_sum as by_checksum}
+use Rattle.deny_build_scan.specs.Why.{IsOfPurpose, Why}
 use Rattle.deny_gate.proofs.Placed.{AreInPlace}
 use Rattle.deny_rules.specs.Packages.{AreSeenBy}
 
--- pairs of two lists, each with its place
+-- pairs of two lists by their places
 zip_places : {A B : Type 0} (R S : A → B → Type 0) (xs : List A) (ys : List B)
     → ((k : ℕ) (x : A) (y : B) → slice_get xs k ≡ Some x → slice_get ys k ≡ Some y → R x y → S x y)
     → AllZip R xs ys → AllZip S xs ys
@@ -56,11 +58,11 @@ zip_places R S (x ∷ xs) (y ∷ ys) each zip = (
   zip_places R S xs ys (λ k a b at too is. each (suc k) a b at too is) zip.1,
 )
 
--- ---- which globs decide of a file
+-- ---- the globs that decide on a file
 
--- of globs of which those stay that fit the same fit
-fitting_kept : (keep : policy.Words → Bool) (path : List ℕ) (ws : List policy.Words) (globs : List (List ℕ))
-    → ((w : policy.Words) → Contains ws w → Contains globs w.value → keep w ≡ true)
+-- the globs that fit a path are the same when globs that do not fit it go
+fitting_kept : (keep : policy.SpannedText → Bool) (path : List ℕ) (ws : List policy.SpannedText) (globs : List (List ℕ))
+    → ((w : policy.SpannedText) → Contains ws w → Contains globs w.value → keep w ≡ true)
     → AreFitting path (map (λ w. w.value) ws) globs → AreFitting path (map (λ w. w.value) (filter keep ws)) globs
 fitting_kept keep path [] _ stay none = none
 fitting_kept keep path (w ∷ ws) _ stay (fitting {globs} {those} glob fits are) =
@@ -75,7 +77,7 @@ fitting_kept keep path (w ∷ ws) globs stay (other glob unfit are) =
       | inr e ↦ rw e rest
     ]
 
--- a glob among those that decide does
+-- a glob among the deciding ones decides on the file
 decided_by : (file : PackageFile) (glob : List ℕ) → Contains file.globs glob → is_decided_by file glob ≡ true
 unfolding is_decided_by
 decided_by file glob is = any_from (same_text glob) file.globs glob is ((bytes_eq-Decides glob glob).1 refl)
@@ -83,7 +85,7 @@ decided_by file glob is = any_from (same_text glob) file.globs glob is ((bytes_e
 module _ (b : Building) (taken : List EntryId) (found now : Option Bypass) (path : List ℕ) (globs : List (List ℕ))
     (paths : path_of_used now path ≡ path_of_used found path) (own : globs_of now ≡ filter (stays_glob taken)
     (globs_of found))
-    (stay : leaves_to_globs (path_of_used found path) ≡ true → (w : policy.Words) → Contains (globs_of found) w
+    (stay : leaves_to_globs (path_of_used found path) ≡ true → (w : policy.SpannedText) → Contains (globs_of found) w
     → Contains globs w.value → stays_glob taken w ≡ true) where
   leaves_alike : (free : Bool) → leaves_to_globs (path_of_used found path) ≡ free
       → leaves_to_globs (path_of_used now path) ≡ free
@@ -91,24 +93,24 @@ module _ (b : Building) (taken : List EntryId) (found now : Option Bypass) (path
 
   own_kept : (these : List (List ℕ)) → these ≡ globs → leaves_to_globs (path_of_used found path) ≡ true
       → AreFitting path (own_texts found) these → AreFitting path (own_texts now) these
-  own_kept these same free are = subst (λ (ws : List policy.Words). AreFitting path (map (λ w. w.value) ws) these)
+  own_kept these same free are = subst (λ (ws : List policy.SpannedText). AreFitting path (map (λ w. w.value) ws) these)
       (sym own)
       (fitting_kept (stays_glob taken) path (globs_of found) these
       (λ w within decides. stay free w within (subst (λ (gs : List (List ℕ)). Contains gs w.value) same decides)) are)
 
   none_fit : leaves_to_globs (path_of_used found path) ≡ true → AreFitting path (own_texts found) []
       → AreFitting path (own_texts now) []
-  none_fit free are = subst (λ (ws : List policy.Words). AreFitting path (map (λ w. w.value) ws) []) (sym own)
+  none_fit free are = subst (λ (ws : List policy.SpannedText). AreFitting path (map (λ w. w.value) ws) []) (sym own)
       (fitting_kept (stays_glob taken) path (globs_of found) [] (λ w within decides. absurd (no_member w.value decides))
       are)
 
-  -- what decided decides
+  -- the globs that decided before still decide
   deciding_then : AreDeciding b found path globs → AreDeciding (cut_building taken b) now path globs
   deciding_then is = by globs refl is
     where
       by : (these : List (List ℕ)) → these ≡ globs → AreDeciding b found path these
           → AreDeciding (cut_building taken b) now path these
-      by _ same (by_path speaks) = by_path (leaves_alike false speaks)
+      by _ same (by_path does_match) = by_path (leaves_alike false does_match)
       by _ same (by_glob glob rest free are) =
           by_glob glob rest (leaves_alike true free) (own_kept (glob ∷ rest) same free are)
       by _ same (by_sum allowed at free are) =
@@ -116,10 +118,10 @@ module _ (b : Building) (taken : List EntryId) (found now : Option Bypass) (path
       by these same (by_extension _ nothing are scripts) = by_extension these (paths ∙ nothing)
           (none_fit (ap (λ (o : Option AllowedPath). leaves_to_globs o) nothing) are) scripts
 
--- ---- of one crate
+-- ---- the package of one crate
 
 module _ (told : Option Files) (c : Circumstances) (facts : Facts) (b : Building) (taken : List EntryId)
-    (alike : AreAskedAlike (looking c facts b) (cut_building taken b) taken) (k : Crate)
+    (alike : AreAskedAlike (scanning c facts b) (cut_building taken b) taken) (k : Crate)
     (known : Contains c.graph.crates k) (contents : Package) (here : package_at c.packages k.place ≡ contents) where
   abbrev rest : Building
   rest = cut_building taken b
@@ -131,11 +133,11 @@ module _ (told : Option Files) (c : Circumstances) (facts : Facts) (b : Building
   walked_same = alike.walked k known contents
 
   module _ (walked : is_walked b c.graph facts.reached contents k ≡ true) where
-    walks_here : walks (looking c facts b) k ≡ true
+    walks_here : walks (scanning c facts b) k ≡ true
     walks_here = subst (λ (p : Package). is_walked b c.graph facts.reached p k ≡ true) (sym here) walked
 
     file_here : (file : PackageFile) → Contains contents.files file
-        → Contains (package_of (looking c facts b) k).files file
+        → Contains (package_of (scanning c facts b) k).files file
     file_here file is = subst (λ (p : Package). Contains p.files file) (sym here) is
 
     step_same : (file : PackageFile) → Contains contents.files file
@@ -146,7 +148,7 @@ module _ (told : Option Files) (c : Circumstances) (facts : Facts) (b : Building
     own_globs : globs_of (used rest k) ≡ filter (stays_glob taken) (globs_of (used b k))
     own_globs =
         ap (λ (o : Option Bypass). globs_of o)
-        (alike.bypass k known (walked_looked (looking c facts b) k walks_here)) ∙ by (used b k)
+        (alike.bypass k known (walked_scanned (scanning c facts b) k walks_here)) ∙ by (used b k)
       where
         by : (o : Option Bypass)
             → globs_of (option_map (cut_bypass taken) o) ≡ filter (stays_glob taken) (globs_of o)
@@ -232,10 +234,10 @@ module _ (told : Option Files) (c : Circumstances) (facts : Facts) (b : Building
   wanted_then why home unread seen u (by_checksum path sum of is) = by_checksum path sum
       (file_of_then (with_file why home unread seen of.file of.member) unread path (BySum sum) of) is
 
--- ---- of all
+-- ---- the packages of all crates
 
 module _ (told : Option Files) (c : Circumstances) (facts : Facts) (b : Building) (taken : List EntryId)
-    (alike : AreAskedAlike (looking c facts b) (cut_building taken b) taken) (placed : AreInPlace c.graph)
+    (alike : AreAskedAlike (scanning c facts b) (cut_building taken b) taken) (placed : AreInPlace c.graph)
     (home : Option (List ℕ)) (unread : List Unread) where
   -- the package at a place is that of the crate there
   package_here : (n : ℕ) (k : Crate) (contents : Package) → slice_get c.graph.crates n ≡ Some k
@@ -278,15 +280,15 @@ seen_without stay told c facts counts taken home unread are placed unhit seen = 
   where
     by : (o : Option Building) → c.building ≡ o → AreSeenBy told o home c.graph unread c.packages
         → AreSeenBy told (option_map (cut_building taken) o) home c.graph unread c.packages
-    by None spoken is = is
-    by (Some b) spoken is =
+    by None given is = is
+    by (Some b) given is =
         let those : Facts = record { chains = facts.chains; reached = is.reached } in
         let same = ap (λ (hits : List Hit). (all_hits c.policy c.graph facts.chains ++ (ignore_hits_in c ++ hits))
-        ++ licence_hits_in counts c) (hits_of_builds_alike c facts those are.reached is.tells) in
-        let alike = stay c those counts taken (subst (λ (hits : List Hit). HaveNoHit hits taken) same unhit) b spoken in
+        ++ licence_hits_in counts c) (hits_of_builds_alike c facts those are.reached is.reports) in
+        let alike = stay c those counts taken (subst (λ (hits : List Hit). HaveNoHit hits taken) same unhit) b given in
         record {
           reached = is.reached;
-          tells = is.tells;
+          reports = is.reports;
           seen = packages_then told c those b taken alike placed home unread is.seen;
           wanted = all_wanted_then told c those b taken alike placed home unread is.seen is.wanted;
         }

@@ -1,22 +1,22 @@
--- Each crate of a graph stands at its place.
+-- Each crate of a graph is at its place.
 use Rattle.std.proofs.Common.{◌≡◌, ◌+◌, ℕ, zero, suc, List, [], ◌∷◌, Contains, Option, Some, refl, sym, ap, ◌∙◌, subst}
 use Rattle.std.proofs.Common.{arith}
 use Rattle.std.specs.Prelude.{filter_map, map, slice_get}
 use Rattle.std.specs.List.{cons_option}
 use Rattle.std.proofs.lemmas.Option.{none-some, same_Some}
-use Rattle.deny_lists.proofs.Members.{Contains-first, Contains-rest, there}
+use Rattle.deny_base_lists.proofs.Members.{Contains-first, Contains-rest, there}
 use Rattle.deny_krates.specs.Listed.{AreCratesAt}
 use Rattle.deny_krates.specs.Read.{IsGraphOf}
 use Rattle.deny_krates.specs.document.Document.{Document}
-use Rattle.deny_krates.specs.document.Package.{Package}
-use Rattle.deny_model.specs.Graph.{Crate, Graph}
-use Rattle.deny_model.specs.Told.{crate_at}
+use Rattle.deny_krates.specs.package.MetadataPackage.{MetadataPackage}
+use Rattle.deny_spec.specs.Graph.{Crate, Graph}
+use Rattle.deny_spec.specs.DiagParts.{crate_at}
 
--- these crates are those at their places
+-- crates are at their places in the graph
 abbrev pub ArePlaced : Graph → List Crate → Type 0
 ArePlaced g crates = (c : Crate) → Contains crates c → slice_get g.crates c.place ≡ Some c
 
-place_at : (doc : Document) (place : ℕ) (ps : List Package) (cs : List Crate) (k : ℕ) (c : Crate)
+place_at : (doc : Document) (place : ℕ) (ps : List MetadataPackage) (cs : List Crate) (k : ℕ) (c : Crate)
     → AreCratesAt doc place ps cs → slice_get cs k ≡ Some c → c.place ≡ place + k
 place_at doc place [] [] k c are is = absurd (none-some c is)
 place_at doc place [] (d ∷ cs) k c are is = absurd are
@@ -37,7 +37,7 @@ are_placed bytes g of = λ c is.
     let same : at.0 ≡ c.place = omega (arith, place) in
     subst (λ (n : ℕ). slice_get g.crates n ≡ Some c) same at.1
 
--- and bears the number of that place
+-- each crate of a graph bears the number of its place
 abbrev pub AreInPlace : Graph → Type 0
 AreInPlace g = (k : ℕ) (c : Crate) → slice_get g.crates k ≡ Some c → c.place ≡ k
 

@@ -1,4 +1,4 @@
--- The files of a policy that was read: behind them stands the lock text.
+-- The files of a policy that was read, and the number of the lock text behind them.
 use Rattle.std.proofs.Common.{◌≡◌, ◌∙◌, ◌+◌, ◌<◌, ◌≤◌, ◌^◌, ◌∷◌, ℕ, List, Option, None, Some, ap, arith, length, refl}
 use Rattle.std.proofs.Common.{subst, sym}
 use Rattle.std.specs.Prelude.{IfSome}
@@ -28,7 +28,7 @@ few_files text policy files same =
     (one_or_two text (builtin_file_of policy.bans)) in
     omega (arith, few)
 
-pub lock_stands : (text : List ℕ) (policy : Policy) (files : List File) → IsPolicyOf text policy_id policy
+pub lock_number : (text : List ℕ) (policy : Policy) (files : List File) → IsPolicyOf text policy_id policy
     → files ≡ policy_files text policy.bans → length files ≡ lock_id (builtin_file_of policy.bans)
-lock_stands text policy files is same = ap (λ (fs : List File). length fs) same
+lock_number text policy files is same = ap (λ (fs : List File). length fs) same
     ∙ lock_behind text (builtin_file_of policy.bans) (next_file text policy_id policy is)

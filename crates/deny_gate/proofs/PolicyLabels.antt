@@ -1,31 +1,32 @@
--- The ranges of a policy are those of the configuration that it is seen from, and so lie in the text where those do.
+-- The spans of a policy are those of its configuration, and so lie in the text where those do.
 use Rattle.std.proofs.Common.{◌≡◌, ◌++◌, ◌+◌, ℕ, List, [], ◌∷◌, Option, None, Some, Result, Ok, Err, map, ap, refl}
 use Rattle.std.proofs.Common.{subst, sym, ◌∙◌}
 use Rattle.std.specs.Prelude.{All, Contains, IfOk, IfSome, slice_get, option_map, option_and_then}
 use Rattle.std.specs.List.{flat_map}
 use Rattle.std.proofs.lemmas.List.Elements.{All-from_recursion, recursion_from_All, All-nil, All-cons}
 use Rattle.std.proofs.lemmas.Option.{none-some, same_Some}
-use Rattle.deny_lists.proofs.Members.{Contains-first, Contains-rest}
+use Rattle.deny_base_lists.proofs.Members.{Contains-first, Contains-rest}
 use Rattle.deny_base.specs.declared.files.File.{File}
 use Rattle.deny_base.specs.declared.key.Key.{Key}
 use Rattle.deny_base.specs.declared.label.Label.{Label}
 use Rattle.deny_base.specs.declared.level.LintLevel.{LintLevel}
 use Rattle.deny_base.specs.declared.span.Span.{Span}
 use Rattle.deny_base.specs.declared.span.Spanned.{Spanned}
-use Rattle.deny_codes.specs.Circumstances.{Circumstances}
-use Rattle.deny_codes.specs.Facts.{Facts}
-use Rattle.deny_codes.specs.Standing.{Stands}
-use Rattle.deny_codes.specs.Told.{diag_of, words_told}
-use Rattle.deny_cfg.specs.LabelRanges.{AreLabels, exception_range, licence_labels, of_some, reason_range, spec_range}
-use Rattle.deny_cfg.specs.LabelRanges.{std_ranges, with_spec, word_labels, word_ranges}
-use Rattle.deny_cfg.specs.LabelRanges as written
+use Rattle.deny_spec_report.specs.Circumstances.{Circumstances}
+use Rattle.deny_spec_report.specs.Facts.{Facts}
+use Rattle.deny_spec_report.specs.Holding.{Holds}
+use Rattle.deny_spec_report.specs.Diags.{diag_of, key_message}
+use Rattle.deny_cfg.specs.LabelSpans.{AreLabels, exception_span, licence_labels, of_some, reason_span, spec_span}
+use Rattle.deny_cfg.specs.LabelSpans.{std_spans, with_spec, word_labels, word_spans}
+use Rattle.deny_cfg.specs.LabelSpans as written
 use Rattle.deny_cfg.specs.LicensingView.{exception_view, licensing_of}
-use Rattle.deny_build_cfg.specs.BuildingView.{building_view, globs_file}
-use Rattle.deny_build_cfg.specs.Builtin.{builtin_file}
-use Rattle.deny_build_cfg.specs.declared.valid.ValidBuildConfig.{ValidBuildConfig}
-use Rattle.deny_build_model.specs.Building.{Building, ScriptGlob}
+use Rattle.deny_cfg_build.specs.BuildingView.{building_view, globs_file}
+use Rattle.deny_cfg_build.specs.Builtin.{builtin_file}
+use Rattle.deny_cfg_build.specs.declared.valid.ValidBuildConfig.{ValidBuildConfig}
+use Rattle.deny_spec.specs.Building.{Building, ScriptGlob}
 use Rattle.deny_cfg.specs.PolicyText.{IsPolicyOf, globs_files, policy_file}
-use Rattle.deny_cfg.specs.PolicyView.{building_of, builtin_file_of, ban_view, entry_view, feature_view, policy_view}
+use Rattle.deny_cfg.specs.PolicyView.{allow_view, building_of, builtin_file_of, ban_view, entry_view, feature_view}
+use Rattle.deny_cfg.specs.PolicyView.{policy_view}
 use Rattle.deny_cfg.specs.PolicyView.{reason_words, replacing_view, root_view, roots_from, words_or_none}
 use Rattle.deny_cfg.specs.StdReplacementConfig.{StdReplacementConfig}
 use Rattle.deny_cfg.specs.TreeSkipExtended.{TreeSkipExtended}
@@ -38,60 +39,61 @@ use Rattle.deny_cfg.specs.PackageSpecOrExtended.{PackageSpecOrExtended}
 use Rattle.deny_cfg.proofs.Among.{lie_prefix, lie_rest}
 use Rattle.deny_cfg.proofs.BuiltLaws.{globs_read, next_file}
 use Rattle.deny_cfg.proofs.LabelLaws.{Lie, lie_append}
-use Rattle.deny_tables.specs.declared.licenses.config.Config as licenses
-use Rattle.deny_tables.specs.declared.licenses.exception.Exception.{Exception}
+use Rattle.deny_cfg_tables.specs.declared.licenses.config.Config as licenses
+use Rattle.deny_cfg_tables.specs.declared.licenses.exception.Exception.{Exception}
 use Rattle.deny_spdx.specs.declared.requirement.Requirement.{Requirement}
-use Rattle.deny_model.specs.Graph.{Graph}
-use Rattle.deny_model.specs.Licensing as model
-use Rattle.deny_model.specs.Policy.{Words}
+use Rattle.deny_spec.specs.Graph.{Graph}
+use Rattle.deny_spec.specs.Licensing as model
+use Rattle.deny_spec.specs.Policy.{SpannedText}
 use Rattle.deny_krates.specs.Read.{IsGraphOf}
-use Rattle.deny_outside.specs.Disk.{Disk}
+use Rattle.deny_base_disk.specs.Disk.{Disk}
 use Rattle.deny_spans.specs.Seen.{lock_file}
-use Rattle.deny_toml.specs.Ranges.{IsRange}
-use Rattle.deny_gate.specs.Gating.{Texts, circumstances_of}
+use Rattle.deny_toml.specs.Spans.{IsSpan}
+use Rattle.deny_gate.specs.Gating.{InputTexts, circumstances_of}
 use Rattle.deny_gate.specs.private.Gating.{Extras, IsPolicyReport, IsReportSeen}
 use Rattle.deny_gate.specs.Gating.{first_files}
 use Rattle.deny_gate.specs.private.Gating.{extras_of}
 use Rattle.deny_gate.specs.Labels.{AreLabelled}
-use Rattle.deny_gate.specs.private.Labels.{ban_ranges, build_ranges, built_in_globs, built_in_ranges, entry_ranges}
-use Rattle.deny_gate.specs.private.Labels.{feature_ranges, ignore_ranges, licence_ranges, own_range, range_of}
-use Rattle.deny_gate.specs.private.Labels.{ranges_of}
+use Rattle.deny_gate.specs.private.Labels.{allow_spans, ban_spans, build_spans, built_in_globs, built_in_spans}
+use Rattle.deny_gate.specs.private.Labels.{entry_spans}
+use Rattle.deny_gate.specs.private.Labels.{features_spans, ignore_spans, licence_spans, own_span, span_of}
+use Rattle.deny_gate.specs.private.Labels.{spans_of}
 use Rattle.deny_gate.specs.Labels.{ArePlaced}
-use Rattle.deny_gate.specs.private.Labels.{root_ranges}
-use Rattle.deny_gate.specs.Report.{lock_id, policy_id, IsReport, finding_told}
+use Rattle.deny_gate.specs.private.Labels.{root_spans}
+use Rattle.deny_gate.specs.Report.{lock_id, policy_id, IsReport, finding_for}
 use Rattle.deny_gate.specs.declared.report.Finding.{Finding}
 use Rattle.deny_gate.specs.declared.report.GateError.{GateError}
 use Rattle.deny_gate.specs.declared.report.Report.{Report}
 use Rattle.deny_gate.proofs.EachCode.{labels_of_key}
 use Rattle.deny_gate.proofs.FeatureSpans.{feature_spans, spans_lie}
-use Rattle.deny_gate.proofs.LabelLaws.{AreRanges}
+use Rattle.deny_gate.proofs.LabelLaws.{AreSpans}
 use Rattle.deny_gate.proofs.Placed.{are_placed}
-use Rattle.deny_gate.proofs.PolicyBuildRanges.{built_in_lie, builds_lie, glob_numbered}
+use Rattle.deny_gate.proofs.PolicyBuildSpans.{built_in_lie, builds_lie, glob_numbered}
 
 -- ---- the labels of findings
 
-told_labels : (c : Circumstances) (key : Key) → (finding_told c key).diag.diag.labels ≡ (words_told c key).labels
-unfolding finding_told diag_of
-told_labels c key = refl
+reported_labels : (c : Circumstances) (key : Key) → (finding_for c key).diag.diag.labels ≡ (key_message c key).labels
+unfolding finding_for diag_of
+reported_labels c key = refl
 
-are_labelled : (c : Circumstances) (facts : Facts) (text : List ℕ) (files : List File) → AreRanges c text files
-    → (keys : List Key) → ((key : Key) → Contains keys key → Stands c facts key)
-    → AreLabelled files (map (finding_told c) keys)
-are_labelled c facts text files are [] stand = All-nil (λ (f : Finding). ArePlaced files f.diag.diag.labels)
-are_labelled c facts text files are (key ∷ keys) stand =
-    All-cons (λ (f : Finding). ArePlaced files f.diag.diag.labels) (finding_told c key) (map (finding_told c) keys)
-    (subst (λ (ls : List Label). ArePlaced files ls) (sym (told_labels c key))
-    (labels_of_key c facts text files are key.code key refl (stand key (Contains-first key keys))))
-    (are_labelled c facts text files are keys (λ k is. stand k (Contains-rest key keys k is)))
+are_labelled : (c : Circumstances) (facts : Facts) (text : List ℕ) (files : List File) → AreSpans c text files
+    → (keys : List Key) → ((key : Key) → Contains keys key → Holds c facts key)
+    → AreLabelled files (map (finding_for c) keys)
+are_labelled c facts text files are [] hold = All-nil (λ (f : Finding). ArePlaced files f.diag.diag.labels)
+are_labelled c facts text files are (key ∷ keys) hold =
+    All-cons (λ (f : Finding). ArePlaced files f.diag.diag.labels) (finding_for c key) (map (finding_for c) keys)
+    (subst (λ (ls : List Label). ArePlaced files ls) (sym (reported_labels c key))
+    (labels_of_key c facts text files are key.code key refl (hold key (Contains-first key keys))))
+    (are_labelled c facts text files are keys (λ k is. hold k (Contains-rest key keys k is)))
 
--- so those of a report do
-report_labelled : (c : Circumstances) (text : List ℕ) (report : Report) → AreRanges c text report.files
+-- the labels of a report lie in its files
+report_labelled : (c : Circumstances) (text : List ℕ) (report : Report) → AreSpans c text report.files
     → IsReport c report → AreLabelled report.files report.findings
 report_labelled c text report are is =
-    subst (λ (found : List Finding). AreLabelled report.files found) (sym is.told)
+    subst (λ (found : List Finding). AreLabelled report.files found) (sym is.findings)
     (are_labelled c is.listed.facts text report.files are is.keys is.listed.listed.sound)
 
--- ---- where the files stand
+-- ---- the numbers of the files
 
 -- the built-in globs have the number behind the policy's, where they are there
 abbrev AreNext : Option ℕ → Type 0
@@ -111,7 +113,7 @@ module _ (first lock : File) (others : List File) where
   globs_at (Some n) number is next =
       ap (λ (m : ℕ). slice_get (files_by (Some n)) m) (sym (same_Some n number is) ∙ next)
 
--- what is said of builds, and the file of its built-in globs
+-- what a policy says of builds, and the number of its built-in globs
 globs_said : (build : Option ValidBuildConfig) (b : Building) → option_map building_view build ≡ Some b
     → (e : ScriptGlob) → Contains (built_in_globs b) e → (number : ℕ) × (option_and_then globs_file build ≡ Some number)
 globs_said None b said e at = absurd (none-some b said)
@@ -119,78 +121,84 @@ globs_said (Some valid) b said e at = glob_numbered valid e
     (subst (λ (x : Building). Contains (built_in_globs x) e) (sym (same_Some (building_view valid) b said)) at)
 
 module _ (text : List ℕ) where
-  words_lie : (words : List Words) → Lie text (word_ranges words) → Lie text (map (λ (w : Words). w.span) words)
+  words_lie : (words : List SpannedText) → Lie text (word_spans words)
+      → Lie text (map (λ (w : SpannedText). w.span) words)
   words_lie [] lie = tt
   words_lie (w ∷ ws) lie = (lie.0, words_lie ws lie.1)
 
-  wrappers_lie : (wrappers : Option (List Words)) → Lie text (of_some word_ranges wrappers)
-      → Lie text (map (λ (w : Words). w.span) (words_or_none wrappers))
+  wrappers_lie : (wrappers : Option (List SpannedText)) → Lie text (of_some word_spans wrappers)
+      → Lie text (map (λ (w : SpannedText). w.span) (words_or_none wrappers))
   wrappers_lie None lie = tt
   wrappers_lie (Some words) lie = words_lie words lie
 
-  reason_lies : (reason : Option Reason) → Lie text (of_some reason_range reason)
-      → Lie text (range_of (option_map reason_words reason))
+  reason_lies : (reason : Option Reason) → Lie text (of_some reason_span reason)
+      → Lie text (span_of (option_map reason_words reason))
   reason_lies None lie = tt
   reason_lies (Some reason) lie = lie
 
-  instead_lies : (use_instead : Option Words) → Lie text (of_some written.own_range use_instead)
-      → Lie text (range_of use_instead)
+  instead_lies : (use_instead : Option SpannedText) → Lie text (of_some written.own_span use_instead)
+      → Lie text (span_of use_instead)
   instead_lies None lie = tt
   instead_lies (Some words) lie = lie
 
-  -- what an entry of `deny` names besides
-  abbrev besides : Option (List Words) → Option Reason → Option Words → List Span
-  besides wrappers reason use_instead = map (λ (w : Words). w.span) (words_or_none wrappers)
-      ++ (range_of (option_map reason_words reason) ++ range_of use_instead)
+  -- the spans of an entry of `deny` besides its spec
+  abbrev besides : Option (List SpannedText) → Option Reason → Option SpannedText → List Span
+  besides wrappers reason use_instead = map (λ (w : SpannedText). w.span) (words_or_none wrappers)
+      ++ (span_of (option_map reason_words reason) ++ span_of use_instead)
 
-  besides_lie : (ban : KrateBan) → Lie text (written.ban_ranges ban)
+  besides_lie : (ban : KrateBan) → Lie text (written.ban_spans ban)
       → Lie text (besides ban.wrappers ban.reason ban.use_instead)
   besides_lie ban lie =
-      let wrappers = of_some word_ranges ban.wrappers in
-      let reason = of_some reason_range ban.reason in
-      let instead = of_some written.own_range ban.use_instead in
+      let wrappers = of_some word_spans ban.wrappers in
+      let reason = of_some reason_span ban.reason in
+      let instead = of_some written.own_span ban.use_instead in
       let rest = lie_rest text wrappers (reason ++ (instead ++ [])) lie in
-      lie_append text (map (λ (w : Words). w.span) (words_or_none ban.wrappers))
-      (range_of (option_map reason_words ban.reason) ++ range_of ban.use_instead)
+      lie_append text (map (λ (w : SpannedText). w.span) (words_or_none ban.wrappers))
+      (span_of (option_map reason_words ban.reason) ++ span_of ban.use_instead)
       (wrappers_lie ban.wrappers (lie_prefix text wrappers (reason ++ (instead ++ [])) lie))
-      (lie_append text (range_of (option_map reason_words ban.reason)) (range_of ban.use_instead)
+      (lie_append text (span_of (option_map reason_words ban.reason)) (span_of ban.use_instead)
       (reason_lies ban.reason (lie_prefix text reason (instead ++ []) rest))
       (instead_lies ban.use_instead (lie_prefix text instead [] (lie_rest text reason (instead ++ []) rest))))
 
-  ban_inner_lies : (inner : Option KrateBan) → Lie text (of_some written.ban_ranges inner)
+  ban_inner_lies : (inner : Option KrateBan) → Lie text (of_some written.ban_spans inner)
       → Lie text (besides (option_and_then (λ (ban : KrateBan). ban.wrappers) inner)
       (option_and_then (λ (ban : KrateBan). ban.reason) inner)
       (option_and_then (λ (ban : KrateBan). ban.use_instead) inner))
   ban_inner_lies None lie = tt
   ban_inner_lies (Some ban) lie = besides_lie ban lie
 
-  ban_lies : (e : PackageSpecOrExtended KrateBan) → Lie text (with_spec written.ban_ranges e)
-      → Lie text (ban_ranges (ban_view e))
-  unfolding ban_ranges
+  ban_lies : (e : PackageSpecOrExtended KrateBan) → Lie text (with_spec written.ban_spans e)
+      → Lie text (ban_spans (ban_view e))
+  unfolding ban_spans
   ban_lies e lie = (lie.0, ban_inner_lies e.inner lie.1)
 
-  entry_lies : (e : PackageSpecOrExtended Reason) → Lie text (with_spec reason_range e)
-      → Lie text (entry_ranges (entry_view e))
-  unfolding entry_ranges
+  allow_lies : (e : PackageSpecOrExtended Reason) → Lie text (with_spec reason_span e)
+      → Lie text (allow_spans (allow_view e))
+  unfolding allow_spans
+  allow_lies e lie = (lie.0, reason_lies e.inner lie.1)
+
+  entry_lies : (e : PackageSpecOrExtended Reason) → Lie text (with_spec reason_span e)
+      → Lie text (entry_spans (entry_view e))
+  unfolding entry_spans
   entry_lies e lie = (lie.0, reason_lies e.inner lie.1)
 
-  root_inner_lies : (inner : Option TreeSkipExtended) → Lie text (of_some written.root_ranges inner)
-      → Lie text (range_of (option_map reason_words (option_and_then (λ (skip : TreeSkipExtended). skip.reason) inner)))
+  root_inner_lies : (inner : Option TreeSkipExtended) → Lie text (of_some written.root_spans inner)
+      → Lie text (span_of (option_map reason_words (option_and_then (λ (skip : TreeSkipExtended). skip.reason) inner)))
   root_inner_lies None lie = tt
   root_inner_lies (Some skip) lie = reason_lies skip.reason lie
 
-  root_lies : (number : ℕ) (e : PackageSpecOrExtended TreeSkipExtended) → Lie text (with_spec written.root_ranges e)
-      → Lie text (root_ranges (root_view number e))
-  unfolding root_ranges
+  root_lies : (number : ℕ) (e : PackageSpecOrExtended TreeSkipExtended) → Lie text (with_spec written.root_spans e)
+      → Lie text (root_spans (root_view number e))
+  unfolding root_spans
   root_lies number e lie = (lie.0, root_inner_lies e.inner lie.1)
 
   roots_lie : (number : ℕ) (es : List (PackageSpecOrExtended TreeSkipExtended))
-      → Lie text (flat_map (with_spec written.root_ranges) es) → Lie text (flat_map root_ranges (roots_from number es))
+      → Lie text (flat_map (with_spec written.root_spans) es) → Lie text (flat_map root_spans (roots_from number es))
   roots_lie number [] lie = tt
   roots_lie number (e ∷ es) lie =
-      let first = with_spec written.root_ranges e in
-      let others = flat_map (with_spec written.root_ranges) es in
-      lie_append text (root_ranges (root_view number e)) (flat_map root_ranges (roots_from (number + 1) es))
+      let first = with_spec written.root_spans e in
+      let others = flat_map (with_spec written.root_spans) es in
+      lie_append text (root_spans (root_view number e)) (flat_map root_spans (roots_from (number + 1) es))
       (root_lies number e (lie_prefix text first others lie))
       (roots_lie (number + 1) es (lie_rest text first others lie))
 
@@ -203,153 +211,155 @@ module _ (text : List ℕ) where
       (lies x (lie_prefix text (from x) (flat_map from xs) lie))
       (each_lies view from to lies xs (lie_rest text (from x) (flat_map from xs) lie))
 
-  entries_lie : (es : List (PackageSpecOrExtended Reason)) → Lie text (flat_map (with_spec reason_range) es)
-      → Lie text (flat_map entry_ranges (map entry_view es))
-  entries_lie = each_lies entry_view (with_spec reason_range) entry_ranges entry_lies
+  entries_lie : (es : List (PackageSpecOrExtended Reason)) → Lie text (flat_map (with_spec reason_span) es)
+      → Lie text (flat_map entry_spans (map entry_view es))
+  entries_lie = each_lies entry_view (with_spec reason_span) entry_spans entry_lies
 
-  -- an entry of `features`: its list and its flag, and the features that it names
-  feature_lies : (f : ValidKrateFeatures) → Lie text (written.feature_ranges f) → Lie text (feature_spans f)
-      → Lie text (feature_ranges (feature_view f))
-  unfolding feature_ranges
+  -- the spans of an entry of `features`: its list, its flag, and the features that it names
+  feature_lies : (f : ValidKrateFeatures) → Lie text (written.features_spans f) → Lie text (feature_spans f)
+      → Lie text (features_spans (feature_view f))
+  unfolding features_spans
   feature_lies f lie spans =
-      let allowed = word_ranges f.features.allow.value in
-      let denied = word_ranges f.features.deny in
-      let rest = denied ++ (of_some reason_range f.reason ++ []) in (
+      let allowed = word_spans f.features.allow.value in
+      let denied = word_spans f.features.deny in
+      let rest = denied ++ (of_some reason_span f.reason ++ []) in (
         spans.0,
         (
           spans.1.0,
-          lie_append text (map (λ (w : Words). w.span) f.features.allow.value)
-              (map (λ (w : Words). w.span) f.features.deny)
+          lie_append text (map (λ (w : SpannedText). w.span) f.features.allow.value)
+              (map (λ (w : SpannedText). w.span) f.features.deny)
               (words_lie f.features.allow.value (lie_prefix text allowed rest lie.1))
-              (words_lie f.features.deny (lie_prefix text denied (of_some reason_range f.reason ++ [])
+              (words_lie f.features.deny (lie_prefix text denied (of_some reason_span f.reason ++ [])
               (lie_rest text allowed rest lie.1))),
         ),
       )
 
-  features_lie : (fs : List ValidKrateFeatures) → Lie text (flat_map written.feature_ranges fs)
-      → Lie text (flat_map feature_spans fs) → Lie text (flat_map feature_ranges (map feature_view fs))
+  features_lie : (fs : List ValidKrateFeatures) → Lie text (flat_map written.features_spans fs)
+      → Lie text (flat_map feature_spans fs) → Lie text (flat_map features_spans (map feature_view fs))
   features_lie [] lie spans = tt
   features_lie (f ∷ fs) lie spans =
-      let first = written.feature_ranges f in
-      let others = flat_map written.feature_ranges fs in
-      lie_append text (feature_ranges (feature_view f)) (flat_map feature_ranges (map feature_view fs))
+      let first = written.features_spans f in
+      let others = flat_map written.features_spans fs in
+      lie_append text (features_spans (feature_view f)) (flat_map features_spans (map feature_view fs))
       (feature_lies f (lie_prefix text first others lie) (spans.0, (spans.1.0, tt)))
       (features_lie fs (lie_rest text first others lie) spans.1.1)
 
-  level_lies : (level : Option (Spanned LintLevel)) → Lie text (of_some written.own_range level)
-      → Lie text (own_range level)
+  level_lies : (level : Option (Spanned LintLevel)) → Lie text (of_some written.own_span level)
+      → Lie text (own_span level)
   level_lies None lie = tt
   level_lies (Some at) lie = lie
 
-  ignores_lie : (std : Option StdReplacementConfig) → Lie text (of_some std_ranges std)
-      → Lie text (ignore_ranges (option_map replacing_view std))
+  ignores_lie : (std : Option StdReplacementConfig) → Lie text (of_some std_spans std)
+      → Lie text (ignore_spans (option_map replacing_view std))
   ignores_lie None lie = tt
   ignores_lie (Some std) lie = entries_lie std.ignore lie
 
-  -- the bans, the allowed, the skips, the trees, the ignores, the features and their levels among all that is written
-  ranges_lie : (cfg : ValidConfig) → Lie text (word_labels cfg) → Lie text (flat_map feature_spans cfg.features)
-      → Lie text (ranges_of (policy_view cfg))
-  unfolding word_labels ranges_of
-  ranges_lie cfg lie spans =
-      let denied = flat_map (with_spec written.ban_ranges) cfg.denied in
-      let allowed = flat_map (with_spec reason_range) cfg.allowed in
-      let external = of_some written.own_range cfg.external_default_features in
-      let workspace = of_some written.own_range cfg.workspace_default_features in
-      let features = flat_map written.feature_ranges cfg.features in
-      let skipped = flat_map (with_spec reason_range) cfg.skipped in
-      let trees = flat_map (with_spec written.root_ranges) cfg.tree_skipped in
-      let from_allowed = lie_rest text (denied ++ flat_map spec_range cfg.denied_multiple_versions) _ lie in
+  -- the spans of bans, allowed crates, skips, skipped trees, ignores, features and levels are among all spans of the
+  -- configuration
+  all_spans_lie : (cfg : ValidConfig) → Lie text (word_labels cfg) → Lie text (flat_map feature_spans cfg.features)
+      → Lie text (spans_of (policy_view cfg))
+  unfolding word_labels spans_of
+  all_spans_lie cfg lie spans =
+      let denied = flat_map (with_spec written.ban_spans) cfg.denied in
+      let allowed = flat_map (with_spec reason_span) cfg.allowed in
+      let external = of_some written.own_span cfg.external_default_features in
+      let workspace = of_some written.own_span cfg.workspace_default_features in
+      let features = flat_map written.features_spans cfg.features in
+      let skipped = flat_map (with_spec reason_span) cfg.skipped in
+      let trees = flat_map (with_spec written.root_spans) cfg.tree_skipped in
+      let from_allowed = lie_rest text (denied ++ flat_map spec_span cfg.denied_multiple_versions) _ lie in
       let from_external = lie_rest text allowed _ from_allowed in
       let from_workspace = lie_rest text external _ from_external in
       let from_features = lie_rest text workspace _ from_workspace in
       let from_skipped = lie_rest text features _ from_features in
       let from_trees = lie_rest text skipped _ from_skipped in
-      let bans = lie_prefix text denied (flat_map spec_range cfg.denied_multiple_versions)
-      (lie_prefix text (denied ++ flat_map spec_range cfg.denied_multiple_versions) _ lie) in
+      let bans = lie_prefix text denied (flat_map spec_span cfg.denied_multiple_versions)
+      (lie_prefix text (denied ++ flat_map spec_span cfg.denied_multiple_versions) _ lie) in
       let from_std = lie_rest text trees _ from_trees in
-      let std = lie_prefix text (of_some std_ranges cfg.std_replacements) _ from_std in
-      lie_append text (flat_map ban_ranges (map ban_view cfg.denied)) _
-      (each_lies ban_view (with_spec written.ban_ranges) ban_ranges ban_lies cfg.denied bans)
-      (lie_append text (flat_map entry_ranges (map entry_view cfg.allowed)) _
-      (entries_lie cfg.allowed (lie_prefix text allowed _ from_allowed))
-      (lie_append text (flat_map entry_ranges (map entry_view cfg.skipped)) _
+      let std = lie_prefix text (of_some std_spans cfg.std_replacements) _ from_std in
+      lie_append text (flat_map ban_spans (map ban_view cfg.denied)) _
+      (each_lies ban_view (with_spec written.ban_spans) ban_spans ban_lies cfg.denied bans)
+      (lie_append text (flat_map allow_spans (map allow_view cfg.allowed)) _
+      (each_lies allow_view (with_spec reason_span) allow_spans allow_lies cfg.allowed
+      (lie_prefix text allowed _ from_allowed))
+      (lie_append text (flat_map entry_spans (map entry_view cfg.skipped)) _
       (entries_lie cfg.skipped (lie_prefix text skipped _ from_skipped))
-      (lie_append text (flat_map root_ranges (roots_from 0 cfg.tree_skipped)) _
+      (lie_append text (flat_map root_spans (roots_from 0 cfg.tree_skipped)) _
       (roots_lie 0 cfg.tree_skipped (lie_prefix text trees _ from_trees))
-      (lie_append text (ignore_ranges (option_map replacing_view cfg.std_replacements)) _
+      (lie_append text (ignore_spans (option_map replacing_view cfg.std_replacements)) _
       (ignores_lie cfg.std_replacements std)
-      (lie_append text (flat_map feature_ranges (map feature_view cfg.features)) _
+      (lie_append text (flat_map features_spans (map feature_view cfg.features)) _
       (features_lie cfg.features (lie_prefix text features _ from_features) spans)
-      (lie_append text (own_range cfg.workspace_default_features) (own_range cfg.external_default_features)
+      (lie_append text (own_span cfg.workspace_default_features) (own_span cfg.external_default_features)
       (level_lies cfg.workspace_default_features (lie_prefix text workspace _ from_workspace))
       (level_lies cfg.external_default_features (lie_prefix text external _ from_external))))))))
 
-  -- what is said of builds stands last
-  build_lies : (cfg : ValidConfig) → Lie text (word_labels cfg) → Lie text (of_some written.build_ranges cfg.build)
+  -- the spans of builds are the last of all
+  build_lies : (cfg : ValidConfig) → Lie text (word_labels cfg) → Lie text (of_some written.build_spans cfg.build)
   unfolding word_labels
   build_lies cfg lie =
-      let denied = flat_map (with_spec written.ban_ranges) cfg.denied
-      ++ flat_map spec_range cfg.denied_multiple_versions in
+      let denied = flat_map (with_spec written.ban_spans) cfg.denied
+      ++ flat_map spec_span cfg.denied_multiple_versions in
       let from_allowed = lie_rest text denied _ lie in
-      let from_external = lie_rest text (flat_map (with_spec reason_range) cfg.allowed) _ from_allowed in
-      let from_workspace = lie_rest text (of_some written.own_range cfg.external_default_features) _ from_external in
-      let from_features = lie_rest text (of_some written.own_range cfg.workspace_default_features) _ from_workspace in
-      let from_skipped = lie_rest text (flat_map written.feature_ranges cfg.features) _ from_features in
-      let from_trees = lie_rest text (flat_map (with_spec reason_range) cfg.skipped) _ from_skipped in
-      let from_std = lie_rest text (flat_map (with_spec written.root_ranges) cfg.tree_skipped) _ from_trees in
-      lie_prefix text (of_some written.build_ranges cfg.build) []
-      (lie_rest text (of_some std_ranges cfg.std_replacements) _ from_std)
+      let from_external = lie_rest text (flat_map (with_spec reason_span) cfg.allowed) _ from_allowed in
+      let from_workspace = lie_rest text (of_some written.own_span cfg.external_default_features) _ from_external in
+      let from_features = lie_rest text (of_some written.own_span cfg.workspace_default_features) _ from_workspace in
+      let from_skipped = lie_rest text (flat_map written.features_spans cfg.features) _ from_features in
+      let from_trees = lie_rest text (flat_map (with_spec reason_span) cfg.skipped) _ from_skipped in
+      let from_std = lie_rest text (flat_map (with_spec written.root_spans) cfg.tree_skipped) _ from_trees in
+      lie_prefix text (of_some written.build_spans cfg.build) []
+      (lie_rest text (of_some std_spans cfg.std_replacements) _ from_std)
 
   -- ---- licences
 
-  allowances_lie : (allow : List (Spanned Requirement)) → Lie text (flat_map written.own_range allow)
+  allowances_lie : (allow : List (Spanned Requirement)) → Lie text (flat_map written.own_span allow)
       → Lie text (map (λ (a : Spanned Requirement). a.span) allow)
   allowances_lie [] lie = tt
   allowances_lie (a ∷ allow) lie = (lie.0, allowances_lie allow lie.1)
 
-  exceptions_lie : (es : List Exception) → Lie text (flat_map exception_range es)
-      → Lie text (map (λ (e : model.Exception). e.spec.range) (map exception_view es))
+  exceptions_lie : (es : List Exception) → Lie text (flat_map exception_span es)
+      → Lie text (map (λ (e : model.Exception). e.spec.span) (map exception_view es))
   exceptions_lie [] lie = tt
   exceptions_lie (e ∷ es) lie = (lie.0, exceptions_lie es lie.1)
 
-  licences_lie : (licensing : Option licenses.Config) → Lie text (written.licence_ranges licensing)
-      → Lie text (licence_ranges (licensing_of licensing))
+  licences_lie : (licensing : Option licenses.Config) → Lie text (written.licence_spans licensing)
+      → Lie text (licence_spans (licensing_of licensing))
   unfolding licence_labels
   licences_lie None lie = tt
   licences_lie (Some config) lie =
-      let allow = flat_map written.own_range config.allow in
-      let exceptions = flat_map exception_range config.exceptions in
+      let allow = flat_map written.own_span config.allow in
+      let exceptions = flat_map exception_span config.exceptions in
       lie_append text (map (λ (a : Spanned Requirement). a.span) config.allow)
-      (map (λ (e : model.Exception). e.spec.range) (map exception_view config.exceptions))
+      (map (λ (e : model.Exception). e.spec.span) (map exception_view config.exceptions))
       (allowances_lie config.allow (lie_prefix text allow (exceptions ++ []) lie))
       (exceptions_lie config.exceptions
       (lie_prefix text exceptions [] (lie_rest text allow (exceptions ++ []) lie)))
 
   -- ---- together
 
-  all_ranges : (old new : Disk) (metadata : List ℕ) (extras : Extras) (said : Policy) (report : Report)
+  all_spans : (old new : Disk) (metadata : List ℕ) (extras : Extras) (said : Policy) (report : Report)
       → (is : IsPolicyOf text policy_id said) → (g : Graph) → IsGraphOf metadata g
-      → AreLabels text (word_labels said.bans) → AreLabels text (written.licence_ranges said.licenses)
-      → All (IsRange text) (written.older_range said.bans)
+      → AreLabels text (word_labels said.bans) → AreLabels text (written.licence_spans said.licenses)
+      → All (IsSpan text) (written.older_span said.bans)
       → (on : IsReportSeen old new said g extras (first_files text said g) report)
-      → AreRanges (circumstances_of said g extras.replacements on.view on.packages) text report.files
-  all_ranges old new metadata extras said report is g is_graph bans licences older on =
+      → AreSpans (circumstances_of said g extras.replacements on.view on.packages) text report.files
+  all_spans old new metadata extras said report is g is_graph bans licences older on =
       let read = globs_read text policy_id said is in
       let next = next_file text policy_id said is in
-      let words = recursion_from_All (IsRange text) (word_labels said.bans) bans.located in record {
+      let words = recursion_from_All (IsSpan text) (word_labels said.bans) bans.located in record {
         first = refl;
         second = refl;
-        of_policy = All-from_recursion (IsRange text) (ranges_of (policy_view said.bans))
-            (ranges_lie said.bans words (spans_lie text said is));
-        of_licences = All-from_recursion (IsRange text) (licence_ranges (licensing_of said.licenses))
+        of_policy = All-from_recursion (IsSpan text) (spans_of (policy_view said.bans))
+            (all_spans_lie said.bans words (spans_lie text said is));
+        of_licences = All-from_recursion (IsSpan text) (licence_spans (licensing_of said.licenses))
             (licences_lie said.licenses
-            (recursion_from_All (IsRange text) (written.licence_ranges said.licenses) licences.located));
-        of_builds = All-from_recursion (IsRange text) (build_ranges (building_of said.bans))
+            (recursion_from_All (IsSpan text) (written.licence_spans said.licenses) licences.located));
+        of_builds = All-from_recursion (IsSpan text) (build_spans (building_of said.bans))
             (builds_lie text said.bans.build read (build_lies said.bans words)
-            (recursion_from_All (IsRange text) (written.older_range said.bans) older));
-        of_globs = All-from_recursion (IsRange builtin_file.source) (built_in_ranges (building_of said.bans))
+            (recursion_from_All (IsSpan text) (written.older_span said.bans) older));
+        of_globs = All-from_recursion (IsSpan builtin_file.source) (built_in_spans (building_of said.bans))
             (built_in_lie said.bans.build read);
-        of_manifests = on.ranges;
+        of_manifests = on.spans;
         policy_there = ap (λ (files : List File). slice_get files policy_id) on.seen.files;
         globs_there = λ b of e at. let numbered = globs_said said.bans.build b of e at in record {
           number = numbered.0;
@@ -364,19 +374,19 @@ module _ (text : List ℕ) where
         places = are_placed metadata g is_graph;
       }
 
--- so the labels of the report of the policy that was read lie in its files
-pub labels_then : (old new : Disk) (texts : Texts) (said : Policy) (read : List ℕ)
+-- the labels of the report of a policy that was read lie in its files
+pub labels_then : (old new : Disk) (texts : InputTexts) (said : Policy) (read : List ℕ)
     (result : Result Report GateError) → read ≡ texts.policy → IsPolicyOf read policy_id said
-    → AreLabels read (word_labels said.bans) → AreLabels read (written.licence_ranges said.licenses)
-    → All (IsRange read) (written.older_range said.bans) → IfOk result (IsPolicyReport old new said texts)
+    → AreLabels read (word_labels said.bans) → AreLabels read (written.licence_spans said.licenses)
+    → All (IsSpan read) (written.older_span said.bans) → IfOk result (IsPolicyReport old new said texts)
     → IfOk result (λ report. AreLabelled report.files report.findings)
 labels_then old new texts said read (Ok report) same is bans licences older on =
     report_labelled (circumstances_of said on.graph texts.replacements on.seen.view on.seen.packages) texts.policy
     report
-    (all_ranges texts.policy old new texts.metadata (extras_of texts) said report
+    (all_spans texts.policy old new texts.metadata (extras_of texts) said report
     (subst (λ (text : List ℕ). IsPolicyOf text policy_id said) same is) on.graph on.is_graph
     (subst (λ (text : List ℕ). AreLabels text (word_labels said.bans)) same bans)
-    (subst (λ (text : List ℕ). AreLabels text (written.licence_ranges said.licenses)) same licences)
-    (subst (λ (text : List ℕ). All (IsRange text) (written.older_range said.bans)) same older) on.seen)
+    (subst (λ (text : List ℕ). AreLabels text (written.licence_spans said.licenses)) same licences)
+    (subst (λ (text : List ℕ). All (IsSpan text) (written.older_span said.bans)) same older) on.seen)
     on.seen.is_report
 labels_then old new texts said read (Err error) same is bans licences older on = tt

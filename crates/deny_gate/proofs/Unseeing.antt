@@ -1,13 +1,14 @@
--- What of hits and dead entries asks nothing of files: entries of kinds that no file decides are hit whatever was seen
--- of packages, and what names them as unused asks nothing of files either.
+-- The hits and dead entries that depend on no files: entries of kinds that no file decides are hit whatever was seen
+-- of packages, and the keys that name them as unused depend on no files either.
 use Rattle.std.proofs.Common.{◌≡◌, ◌∙◌, Bool, true, false, List, Option, None, Some, ap, refl, subst, sym}
 use Rattle.std.specs.Prelude.{Contains, option_map}
 use Rattle.std.specs.Option.{option_map_or}
 use Rattle.std.proofs.lemmas.Bool.{false≢true}
 use Rattle.std.proofs.lemmas.List.Kept.{IsStrictlySortedBy-filter}
 use Rattle.std.proofs.lemmas.Option.{none-some, same_Some}
-use Rattle.deny_lists.proofs.Members.{Contains-filter, Contains-filter_map, from_filter_map, filtered, passes_filter}
-use Rattle.deny_lists.proofs.Sorted.{one_ascending}
+use Rattle.deny_base_lists.proofs.Members.{Contains-filter, Contains-filter_map, from_filter_map, filtered}
+use Rattle.deny_base_lists.proofs.Members.{passes_filter}
+use Rattle.deny_base_lists.proofs.Sorted.{one_ascending}
 use Rattle.deny_base.specs.Code.{asks_no_file, bans_unused_kind, is_free, unused_kind}
 use Rattle.deny_base.proofs.EntryEqual.{entry_cmp-total}
 use Rattle.deny_base.specs.declared.code.Code.{Code}
@@ -18,11 +19,11 @@ use Rattle.deny_base.specs.declared.entry.EntryId.{EntryId}
 use Rattle.deny_base.specs.declared.entry.EntryKind.{EntryKind}
 use Rattle.deny_base.specs.declared.entry.Hit.{Hit}
 use Rattle.deny_base.specs.declared.key.Key.{Key}
-use Rattle.deny_codes.specs.Codes.{unseeing}
-use Rattle.deny_laws.specs.Dead.{AreDead, IsDead, unused_entry}
+use Rattle.deny_spec_report.specs.Codes.{unseeing}
+use Rattle.deny_spec_removal.specs.Dead.{AreDead, IsDead, unused_entry}
 use Rattle.deny_gate.specs.Unseeing.{is_free_kind, unseeing_entries, unseeing_hits}
 
--- ---- what names an entry that no file decides
+-- ---- keys that name an entry that no file decides
 
 free_as : (d : Code) (k : EntryKind) → bans_unused_kind d ≡ Some k → is_free_kind k ≡ true → is_free d ≡ true
 free_as d k is free = by d (ap (λ (o : Option EntryKind). option_map_or is_free_kind o false) is ∙ free)
@@ -56,7 +57,7 @@ names_free key e is free = named_by key e (unused_kind key.code) refl is free
 
 module _ (xs ys : List Key) (hits others : List Hit) (free_keys : unseeing xs ≡ unseeing ys)
     (free_hits : unseeing_hits hits ≡ unseeing_hits others) where
-  -- what is dead by the first is dead by the second
+  -- an entry that is dead by the first keys and hits is dead by the second
   stays_dead : (e : EntryId) → is_free_kind e.kind ≡ true → IsDead xs hits e → IsDead ys others e
   stays_dead e free dead = record {
     reported =

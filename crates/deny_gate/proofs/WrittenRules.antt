@@ -1,4 +1,4 @@
--- A rule that a policy minds, its text writes.
+-- The text of a policy writes each of its active rules.
 use Rattle.std.proofs.Common.{◌≡◌, ◌∙◌, ◌==◌, ℕ, Bool, true, false, not, length, List, [], ◌∷◌, Option, None, Some}
 use Rattle.std.proofs.Common.{refl, sym, ap, subst}
 use Rattle.std.specs.Option.{option_map_or}
@@ -6,7 +6,7 @@ use Rattle.std.specs.Prelude.{◌||◌, codes, is_some, map, option_and_then, op
 use Rattle.std.specs.Str.{bytes_eq}
 use Rattle.std.proofs.lemmas.Bool.{false≢true}
 use Rattle.std.proofs.lemmas.List.{length-map}
-use Rattle.deny_lists.proofs.Options.{is_some-option_map}
+use Rattle.deny_base_lists.proofs.Options.{is_some-option_map}
 use Rattle.deny_base.specs.Code.{rule_of}
 use Rattle.deny_base.specs.Rule.{Rule, OnCrates, OnWildcards, OnFeatures, OnDefaultFeatures, OnWorkspaceDependencies}
 use Rattle.deny_base.specs.Rule.{OnStdReplacements, OnBuildScripts, OnPackageFiles, OnLicenses}
@@ -20,40 +20,41 @@ use Rattle.deny_toml.specs.Deserialize.{ReadsArray, ReadsEach}
 use Rattle.deny_toml.specs.Value.{entries_in}
 use Rattle.deny_toml.specs.value.Table.{Table}
 use Rattle.deny_toml.specs.value.Value.{Value}
-use Rattle.deny_codes.specs.BuildScripts.{is_minded}
-use Rattle.deny_entries.specs.PolicyKey.{name_of}
-use Rattle.deny_entries.specs.Spec.{ReadsSpec}
-use Rattle.deny_entries.specs.SpecView.{spec_view}
-use Rattle.deny_entries.specs.Table.{Entries, ReadsIfThere, ReadsIn, ReadsOr, ReadsTable, at_key}
-use Rattle.deny_entries.specs.Words.{ReadsAs, ReadsList, ReadsSpanned, level_of}
-use Rattle.deny_entries.specs.declared.package_spec.PackageSpec.{PackageSpec}
-use Rattle.deny_entries.specs.declared.policy_key.PolicyKey.TheVariants as key
-use Rattle.deny_entries.proofs.KeyLaws.{says_of}
-use Rattle.deny_tables.specs.Build.{ReadsBuild}
-use Rattle.deny_tables.specs.Config.{ReadsConfig}
-use Rattle.deny_tables.specs.Features.{ReadsCrateFeatures}
-use Rattle.deny_tables.specs.Licenses.{ReadsLicenses}
-use Rattle.deny_tables.specs.StdReplacements.{a_std}
-use Rattle.deny_tables.specs.Workspace.{a_workspace}
-use Rattle.deny_tables.specs.declared.bans.cfg.build.BuildConfig.{BuildConfig}
-use Rattle.deny_tables.specs.declared.bans.cfg.config.Config.{Config}
-use Rattle.deny_tables.specs.declared.bans.cfg.features.CrateFeatures.{CrateFeatures}
-use Rattle.deny_tables.specs.declared.bans.cfg.std_replacements.StdReplacementConfig.{StdReplacementConfig}
-use Rattle.deny_tables.specs.declared.bans.cfg.workspace.WorkspaceDepsConfig.{WorkspaceDepsConfig}
-use Rattle.deny_build_cfg.specs.Build.{IsBuildOf, build_by}
-use Rattle.deny_build_cfg.specs.BuildingView.{building_view}
-use Rattle.deny_build_cfg.specs.Globs.{OfBoth}
-use Rattle.deny_build_cfg.specs.declared.valid.ValidBuildConfig.{ValidBuildConfig}
+use Rattle.deny_spec_report.specs.BuildScripts.{is_active}
+use Rattle.deny_cfg_entries.specs.PolicyKey.{name_of}
+use Rattle.deny_cfg_entries.specs.Spec.{ReadsSpec}
+use Rattle.deny_cfg_entries.specs.SpecView.{spec_view}
+use Rattle.deny_cfg_entries.specs.Table.{Entries, ReadsIfThere, ReadsIn, ReadsOr, ReadsTable, at_key}
+use Rattle.deny_cfg_entries.specs.Words.{ReadsAs, ReadsList, ReadsSpanned, level_of}
+use Rattle.deny_cfg_entries.specs.declared.package_spec.PackageSpec.{PackageSpec}
+use Rattle.deny_cfg_entries.specs.declared.policy_key.PolicyKey.TheVariants as key
+use Rattle.deny_cfg_entries.proofs.KeyLaws.{says_of}
+use Rattle.deny_cfg_tables.specs.Build.{ReadsBuild}
+use Rattle.deny_cfg_tables.specs.Config.{ReadsConfig}
+use Rattle.deny_cfg_tables.specs.Features.{ReadsCrateFeatures}
+use Rattle.deny_cfg_tables.specs.Licenses.{ReadsLicenses}
+use Rattle.deny_cfg_tables.specs.StdReplacements.{a_std}
+use Rattle.deny_cfg_tables.specs.Workspace.{a_workspace}
+use Rattle.deny_cfg_tables.specs.declared.bans.cfg.build.BuildConfig.{BuildConfig}
+use Rattle.deny_cfg_tables.specs.declared.bans.cfg.config.Config.{Config}
+use Rattle.deny_cfg_tables.specs.declared.bans.cfg.features.CrateFeatures.{CrateFeatures}
+use Rattle.deny_cfg_tables.specs.declared.bans.cfg.std_replacements.StdReplacementConfig.{StdReplacementConfig}
+use Rattle.deny_cfg_tables.specs.declared.bans.cfg.workspace.WorkspaceDepsConfig.{WorkspaceDepsConfig}
+use Rattle.deny_cfg_build.specs.Build.{IsBuildOf, build_by}
+use Rattle.deny_cfg_build.specs.BuildingView.{building_view}
+use Rattle.deny_cfg_build.specs.Globs.{OfBoth}
+use Rattle.deny_cfg_build.specs.declared.valid.ValidBuildConfig.{ValidBuildConfig}
 use Rattle.deny_cfg.specs.LicensingView.{licensing_of, licensing_view}
 use Rattle.deny_cfg.specs.PolicyText.{IsPolicyOf, ReadsBans}
 use Rattle.deny_cfg.specs.PolicyView.{building_of, feature_view, policy_view, replacing_view, sharing_view}
 use Rattle.deny_cfg.specs.Valid.{build_of, features_of, older_key_of}
 use Rattle.deny_cfg.specs.declared.bans.cfg.valid.ValidKrateFeatures.{ValidKrateFeatures}
 use Rattle.deny_cfg.specs.declared.policy.Policy as cfg
-use Rattle.deny_gate.specs.Headline.{WritesRule, denies, has_element, has_entry, has_key, is_deny, rule_stands}
+use Rattle.deny_gate.specs.Headline.{WritesRule, denies, has_element, has_entry, has_key, is_deny, rule_is_written}
 use Rattle.deny_gate.specs.Report.{policy_id}
 use Rattle.deny_gate.proofs.Covered.{some_test}
-use Rattle.deny_gate.proofs.MindedRules.{denies_wildcards, has_features, lists_scripts, minds, minds_files, minds_rule}
+use Rattle.deny_gate.proofs.ActiveRules.{denies_wildcards, has_features, lists_scripts, is_on, checks_files}
+use Rattle.deny_gate.proofs.ActiveRules.{checks_rule}
 
 there_if_read : {T : Type 0} (Reads : Value → T → Type 0) (v : Option Value) (x : Option T) → ReadsIfThere Reads v x
     → is_some x ≡ true → is_some v ≡ true
@@ -78,13 +79,13 @@ features_there None read says some =
     absurd (false≢true (sym (ap (λ (fs : List CrateFeatures). not (length fs == 0)) says) ∙ some))
 features_there (Some v) read says some = entry_there (array_in v) read says some
 
--- whether either test passes, where each leads to another
+-- either of two tests passes where either of two others does, each of which implies one of them
 or_both : (a b c d : Bool) → (a ≡ true → c ≡ true) → (b ≡ true → d ≡ true) → (a || b) ≡ true → (c || d) ≡ true
 or_both a b true d left right is = refl
 or_both true b false d left right is = absurd (false≢true (left refl))
 or_both false b false d left right is = right is
 
--- what the entries of the table `bans` write, the table does; without entries nothing is written
+-- a rule that the entries of the table `bans` write, the table writes; without entries none is written
 module _ (config : Config) (writes : Entries → Bool) (in_table : Option Table → Bool)
     (same : (t : Table) → in_table (Some t) ≡ writes (entries_in t)) (nothing : writes [] ≡ false)
     (each : (entries : Entries) → ReadsConfig entries config → writes entries ≡ true) where
@@ -96,7 +97,7 @@ module _ (config : Config) (writes : Entries → Bool) (in_table : Option Table 
   by_bans None reads = absurd (false≢true (sym nothing ∙ each [] reads))
   by_bans (Some v) reads = by_table (table_in v) reads
 
--- a key of the table
+-- the value at a key of the table
 abbrev key_in : List ℕ → Option Table → Option Value
 key_in name o = option_and_then (λ t. value_at name (entries_in t)) o
 
@@ -129,7 +130,7 @@ levels_written config o reads some =
     config.external_default_features (says_of key.ExternalDefaultFeatures keys)) some)
     o reads
 
--- the word of a level that is read
+-- the level `deny` is read from its word
 deny_of : (allowed warns denied : Bool)
     → (if allowed then Some level.Allow else if warns then Some level.Warn
     else if denied then Some level.Deny else None) ≡ Some level.Deny → denied ≡ true
@@ -148,7 +149,7 @@ deny_read : (o : Option (List ℕ)) → option_and_then level_of o ≡ Some leve
 deny_read None is = absurd (cc is)
 deny_read (Some text) is = deny_word text is
 
--- a level that is read and is not the one that stands for nothing is written
+-- a level that is read and is not the default is written
 deny_there : (o : Option Value) (l : LintLevel) → ReadsOr level.Allow (ReadsAs level_of) o l → denies_wildcards l ≡ true
     → option_map_or is_deny o false ≡ true
 deny_there None l says denied =
@@ -187,12 +188,12 @@ std_written config o reads some =
     (says_of key.StdReplacements keys) some)
     o reads
 
--- the table `build`, and the list of crates that may have a script: its own, or the older one where there is no table
+-- the table `build`, and the list of crates that may have a script: its own, or the older key where there is no table
 abbrev has_scripts : Option BuildConfig → Bool
 has_scripts o = option_map_or (λ b. is_some b.allow_build_scripts) o false
 
 abbrev has_files : Option BuildConfig → Bool
-has_files o = option_map_or (λ b. is_minded b.executables) o false
+has_files o = option_map_or (λ b. is_active b.executables) o false
 
 own_list : (v : Value) (b : BuildConfig) → ReadsTable ReadsBuild v b → is_some b.allow_build_scripts ≡ true
     → has_key (codes "allow-build-scripts") v ≡ true
@@ -220,14 +221,14 @@ scripts_there (Some v) w None scripts says reads some = absurd says
 scripts_there (Some v) w (Some b) scripts says reads some = own_list v b says some
 
 older_files : (scripts : Option (Spanned (List PackageSpec))) → has_files (build_by None scripts) ≡ true → ⊥
-older_files None minded = false≢true minded
-older_files (Some list) minded = false≢true minded
+older_files None active = false≢true active
+older_files (Some list) active = false≢true active
 
 files_there : (v : Option Value) (build : Option BuildConfig) (scripts : Option (Spanned (List PackageSpec)))
     → ReadsIfThere (ReadsTable ReadsBuild) v build → has_files (build_by build scripts) ≡ true → is_some v ≡ true
-files_there None build scripts none minded = absurd (older_files scripts
-    (ap (λ (o : Option BuildConfig). has_files (build_by o scripts)) (sym none) ∙ minded))
-files_there (Some v) build scripts says minded = refl
+files_there None build scripts none active = absurd (older_files scripts
+    (ap (λ (o : Option BuildConfig). has_files (build_by o scripts)) (sym none) ∙ active))
+files_there (Some v) build scripts says active = refl
 
 scripts_written : (config : Config) (o : Option Value) → ReadsBans o config → has_scripts (build_of config) ≡ true
     → option_map_or
@@ -248,23 +249,23 @@ scripts_written config o reads some =
 files_written : (config : Config) (o : Option Value) → ReadsBans o config → has_files (build_of config) ≡ true
     → option_map_or (has_key (codes "build")) o false ≡ true
 unfolding name_of
-files_written config o reads minded =
+files_written config o reads active =
     by_bans config (λ entries. is_some (value_at (codes "build") entries))
     (λ t. is_some (key_in (codes "build") t)) (λ t. refl) refl
     (λ entries keys. files_there (at_key key.Build entries) config.build config.allow_build_scripts
-    (says_of key.Build keys) minded)
+    (says_of key.Build keys) active)
     o reads
 
--- what rules see of the table that holds
+-- the list of scripts that rules see is that of the table
 scripts_seen : (next : ℕ) (older : Option Span) (o : Option BuildConfig) (valid : Option ValidBuildConfig)
     → OfBoth (λ build. IsBuildOf build next older) o valid
     → option_map_or lists_scripts (option_map building_view valid) false ≡ true → has_scripts o ≡ true
-scripts_seen next older None None both minded = minded
-scripts_seen next older None (Some v) both minded = absurd both
-scripts_seen next older (Some b) None both minded = absurd both
-scripts_seen next older (Some b) (Some v) both minded =
+scripts_seen next older None None both active = active
+scripts_seen next older None (Some v) both active = absurd both
+scripts_seen next older (Some b) None both active = absurd both
+scripts_seen next older (Some b) (Some v) both active =
     ap (λ (o : Option (List PackageSpec)). is_some o) (sym both.allow_build_scripts)
-    ∙ (sym (seen_list v.allow_build_scripts) ∙ minded)
+    ∙ (sym (seen_list v.allow_build_scripts) ∙ active)
   where
     seen_list : (o : Option (List PackageSpec)) → is_some (option_map (map spec_view) o) ≡ is_some o
     seen_list None = refl
@@ -272,14 +273,14 @@ scripts_seen next older (Some b) (Some v) both minded =
 
 files_seen : (next : ℕ) (older : Option Span) (o : Option BuildConfig) (valid : Option ValidBuildConfig)
     → OfBoth (λ build. IsBuildOf build next older) o valid
-    → option_map_or minds_files (option_map building_view valid) false ≡ true → has_files o ≡ true
-files_seen next older None None both minded = minded
-files_seen next older None (Some v) both minded = absurd both
-files_seen next older (Some b) None both minded = absurd both
-files_seen next older (Some b) (Some v) both minded =
-    ap (λ (l : LintLevel). is_minded l) (sym both.executables) ∙ minded
+    → option_map_or checks_files (option_map building_view valid) false ≡ true → has_files o ≡ true
+files_seen next older None None both active = active
+files_seen next older None (Some v) both active = absurd both
+files_seen next older (Some b) None both active = absurd both
+files_seen next older (Some b) (Some v) both active =
+    ap (λ (l : LintLevel). is_active l) (sym both.executables) ∙ active
 
--- ---- what the rules see is what was read
+-- ---- the policy that rules see is the one that was read
 
 module _ (text : List ℕ) (said : cfg.Policy) (is : IsPolicyOf text policy_id said) where
   abbrev config : Config
@@ -320,46 +321,46 @@ module _ (text : List ℕ) (said : cfg.Policy) (is : IsPolicyOf text policy_id s
       (sym is.valid.workspace_dependencies)
       ∙ (sym (is_some-option_map sharing_view said.bans.workspace_dependencies) ∙ some)
 
-  files_said : option_map_or minds_files (building_of said.bans) false ≡ true
+  files_said : option_map_or checks_files (building_of said.bans) false ≡ true
       → option_map_or (has_key (codes "build")) (below_name (codes "bans") tree) false ≡ true
-  files_said minded = files_written config (below_name (codes "bans") tree) is.says.reads
-      (files_seen _ (older_key_of config) (build_of config) said.bans.build is.valid.build minded)
+  files_said active = files_written config (below_name (codes "bans") tree) is.says.reads
+      (files_seen _ (older_key_of config) (build_of config) said.bans.build is.valid.build active)
 
   licenses_there : is_some (licensing_of said.licenses) ≡ true → has_key (codes "licenses") tree ≡ true
   licenses_there some = there_if_read (ReadsTable ReadsLicenses) (below_name (codes "licenses") tree) said.licenses
       is.says.reads_licenses (sym (is_some-option_map licensing_view said.licenses) ∙ some)
 
-  abbrev said_minds : Rule → Bool
-  said_minds rule = minds_rule rule (policy_view said.bans) (licensing_of said.licenses) (building_of said.bans)
+  abbrev said_checks : Rule → Bool
+  said_checks rule = checks_rule rule (policy_view said.bans) (licensing_of said.licenses) (building_of said.bans)
 
-  stands : (rule : Rule) → said_minds rule ≡ true → rule_stands rule tree ≡ true
-  unfolding rule_stands
-  stands OnCrates minded = absurd (false≢true minded)
-  stands OnWildcards minded =
-      wildcards_written config (below_name (codes "bans") tree) is.says.reads (wildcards_read minded)
-  stands OnFeatures minded =
-      features_written config (below_name (codes "bans") tree) is.says.reads (features_read minded)
-  stands OnDefaultFeatures minded =
-      levels_written config (below_name (codes "bans") tree) is.says.reads (levels_read minded)
-  stands OnWorkspaceDependencies minded =
-      sharing_written config (below_name (codes "bans") tree) is.says.reads (sharing_read minded)
-  stands OnStdReplacements minded =
-      std_written config (below_name (codes "bans") tree) is.says.reads (std_read minded)
-  stands OnBuildScripts minded = scripts_written config (below_name (codes "bans") tree) is.says.reads
-      (scripts_seen _ (older_key_of config) (build_of config) said.bans.build is.valid.build minded)
-  stands OnPackageFiles minded = files_said minded
-  stands OnLicenses minded = licenses_there minded
+  by_rule : (rule : Rule) → said_checks rule ≡ true → rule_is_written rule tree ≡ true
+  unfolding rule_is_written
+  by_rule OnCrates active = absurd (false≢true active)
+  by_rule OnWildcards active =
+      wildcards_written config (below_name (codes "bans") tree) is.says.reads (wildcards_read active)
+  by_rule OnFeatures active =
+      features_written config (below_name (codes "bans") tree) is.says.reads (features_read active)
+  by_rule OnDefaultFeatures active =
+      levels_written config (below_name (codes "bans") tree) is.says.reads (levels_read active)
+  by_rule OnWorkspaceDependencies active =
+      sharing_written config (below_name (codes "bans") tree) is.says.reads (sharing_read active)
+  by_rule OnStdReplacements active =
+      std_written config (below_name (codes "bans") tree) is.says.reads (std_read active)
+  by_rule OnBuildScripts active = scripts_written config (below_name (codes "bans") tree) is.says.reads
+      (scripts_seen _ (older_key_of config) (build_of config) said.bans.build is.valid.build active)
+  by_rule OnPackageFiles active = files_said active
+  by_rule OnLicenses active = licenses_there active
 
-  written : (o : Option Rule) → option_map_or (λ rule. said_minds rule) o false ≡ true
-      → option_map_or (λ rule. rule_stands rule tree) o false ≡ true
-  written None minded = absurd (false≢true minded)
-  written (Some rule) minded = stands rule minded
+  written : (o : Option Rule) → option_map_or (λ rule. said_checks rule) o false ≡ true
+      → option_map_or (λ rule. rule_is_written rule tree) o false ≡ true
+  written None active = absurd (false≢true active)
+  written (Some rule) active = by_rule rule active
 
   pub rule_written : (d : DiagnosticCode)
-      → minds d (policy_view said.bans) (licensing_of said.licenses) (building_of said.bans) ≡ true
+      → is_on d (policy_view said.bans) (licensing_of said.licenses) (building_of said.bans) ≡ true
       → WritesRule text d
-  rule_written d minded = record {
+  rule_written d active = record {
     tree = tree;
     is_tree = is.says.is_tree;
-    written = written (rule_of d) minded;
+    written = written (rule_of d) active;
   }

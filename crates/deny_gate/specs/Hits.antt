@@ -2,7 +2,7 @@
 use Rattle.std.specs.Prelude.{List, Contains}
 use Rattle.std.specs.Ordering.{on}
 use Rattle.std.specs.declared.cmp.Ordering.{Ordering}
-use Rattle.deny_lists.specs.Ascending.{Lists}
+use Rattle.deny_base_lists.specs.Ascending.{Lists}
 use Rattle.deny_base.specs.Entry.{entry_cmp}
 use Rattle.deny_base.specs.declared.entry.EntryId.{EntryId}
 use Rattle.deny_base.specs.declared.entry.Hit.{Hit}
@@ -10,10 +10,10 @@ use Rattle.deny_base.specs.declared.entry.Hit.{Hit}
 abbrev pub entry_of : Hit → EntryId
 entry_of h = h.entry
 
--- by the range of their entries, and then by their kind
+-- hits are ordered by the span of their entries, and then by their kind
 abbrev pub hit_cmp : Hit → Hit → Ordering
 hit_cmp = on entry_of entry_cmp
 
--- exactly these, in the order of their entries, of which no two are one
+-- the hits of a report are exactly these, in the order of their entries, of which no two are equal
 abbrev pub AreHits : List Hit → List Hit → Type 0
 AreHits all hits = Lists hit_cmp (Contains all) hits

@@ -30,11 +30,11 @@ same_severity _ _ = false
 unfoldable pub counts_as : Check → Severity → Finding → Bool
 counts_as check severity finding = same_severity finding.diag.diag.severity severity && same_check finding.check check
 
--- how many of the findings are, and 2^32 - 1 where there are more
+-- how many findings of a check have a severity, and 2^32 - 1 where there are more
 unfoldable pub number_of : Check → Severity → List Finding → ℕ
 number_of check severity findings = min (length (filter (counts_as check severity) findings)) (2 ^ 32 - 1)
 
--- bugs count nowhere
+-- the counts of a check; bugs count nowhere
 abbrev pub stats_of : Check → List Finding → Stats
 stats_of check findings = record {
   errors = number_of check Error findings;
@@ -43,7 +43,7 @@ stats_of check findings = record {
   helps = number_of check Help findings;
 }
 
--- of the bans check, and of the licence check where it is made; no other is
+-- the counts of the bans check, and of the licence check where it is made; no other check is
 abbrev pub all_stats : Bool → List Finding → AllStats
 all_stats has_licenses findings = record {
   advisories = None;
@@ -52,16 +52,16 @@ all_stats has_licenses findings = record {
   sources = None;
 }
 
--- what a check with errors counts for
+-- the bit of a check with errors
 abbrev pub bit_of : ℕ → Option Stats → ℕ
 bit_of bit None = 0
 bit_of bit (Some stats) = if stats.errors == 0 then 0 else bit
 
--- the sum over all checks
+-- the sum of the bits of all checks
 abbrev pub exit_bits : AllStats → ℕ
 exit_bits stats = bit_of 1 stats.advisories + bit_of 2 stats.bans + bit_of 4 stats.licenses + bit_of 8 stats.sources
 
--- none where no check has an error
+-- the code that a program exits with: none where no check has an error
 abbrev pub exit_code : AllStats → Option ℤ
 exit_code stats = if exit_bits stats == 0 then None else Some (pos (exit_bits stats))
 

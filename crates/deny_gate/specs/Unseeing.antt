@@ -1,4 +1,4 @@
--- What of a report asks nothing of files, so that it is the same whatever was seen of them.
+-- The part of a report that depends on no files, and so is the same whatever was seen of them.
 use Rattle.std.specs.Prelude.{Bool, true, false, List, filter}
 use Rattle.deny_base.specs.Code.{asks_no_file}
 use Rattle.deny_base.specs.declared.entry.EntryId.{EntryId}
@@ -7,11 +7,11 @@ use Rattle.deny_base.specs.declared.entry.EntryKind.TheVariants as kind
 use Rattle.deny_base.specs.declared.entry.Hit.{Hit}
 use Rattle.deny_gate.specs.declared.report.Finding.{Finding}
 
--- findings, by their codes
+-- findings whose codes depend on no files
 abbrev pub unseeing_findings : List Finding → List Finding
 unseeing_findings findings = filter (λ f. asks_no_file f.diag.key.code) findings
 
--- entries that are hit whatever files hold: all but those that let packages pass
+-- kinds of entries whose hits depend on no files: all but those that let packages pass
 abbrev pub is_free_kind : EntryKind → Bool
 is_free_kind kind.Skip = true
 is_free_kind kind.SkipRoot = true

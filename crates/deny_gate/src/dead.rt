@@ -1,19 +1,19 @@
-//! Dead entries: what a finding names as unused, and nothing hits.
+//! Dead entries: those that a finding names as unused and that have no hit.
 ghost use Rattle.std.specs.Prelude.{◌≡◌, IfOk, filter_map, map};
 ghost use Rattle.std.specs.List.Sorted.{IsStrictlySortedBy};
 ghost use Rattle.deny_base.specs.Entry.{entry_cmp};
-ghost use Rattle.deny_laws.specs.Dead.{AreDead, unused_entry};
+ghost use Rattle.deny_spec_removal.specs.Dead.{AreDead, unused_entry};
 ghost use Rattle.deny_gate.specs.private.Dead.{dead_entry, is_among};
 ghost use Rattle.deny_gate.specs.Hits.{entry_of, hit_cmp};
 ghost use Rattle.deny_gate.specs.Report.{keys_in};
 
 use crate::report::Finding;
 use deny_base::{EntryId, Hit, Key, entry_order};
-use deny_lists::{List, NoMemory, put_in_order};
+use deny_base_lists::{List, NoMemory, put_in_order};
 use std::alloc::Global;
 
 /// The entry that a key names as unused.
-#[tactic(auto, unfolding(deny_laws::specs::Dead::unused_entry))]
+#[tactic(auto, unfolding(deny_spec_removal::specs::Dead::unused_entry))]
 fn unused_entry(key: &Key) -> Option<EntryId>
     ensures { result ≡ unused_entry key.now }
 {
@@ -35,7 +35,7 @@ fn hit_entries(alloc: Global, hits: &[Hit]) -> Result<List<EntryId>, NoMemory>
     Ok(entries)
 }
 
-/// Whether an entry is one of these, which ascend.
+/// Whether an entry is in a list that ascends.
 fn is_among(entries: &[EntryId], entry: &EntryId) -> bool
     requires { IsStrictlySortedBy entry_cmp entries.now }
     ensures { result ≡ is_among entries.now entry.now }
@@ -44,7 +44,7 @@ fn is_among(entries: &[EntryId], entry: &EntryId) -> bool
     entries.binary_search(entry).is_ok()
 }
 
-/// The entry that a key names as unused, unless it is one of those that are hit.
+/// The entry that a key names as unused, unless it is hit.
 #[tactic(auto, unfolding(crate::specs::private::Dead::dead_entry))]
 fn dead_entry(key: &Key, hit: &[EntryId]) -> Option<EntryId>
     requires { IsStrictlySortedBy entry_cmp hit.now }
@@ -58,7 +58,7 @@ fn dead_entry(key: &Key, hit: &[EntryId]) -> Option<EntryId>
     }
 }
 
-/// The dead entries that findings name, in the order of these.
+/// The dead entries that findings name, in the order of the findings.
 fn dead_entries(
     alloc: Global,
     findings: &[Finding],
@@ -76,7 +76,7 @@ fn dead_entries(
     Ok(entries)
 }
 
-/// The entries that findings name as unused and that have no hit, by range and kind.
+/// The entries that findings name as unused and that have no hit, by span and kind.
 pub fn dead_of(alloc: Global, findings: &[Finding], hits: &[Hit]) -> Result<List<EntryId>, NoMemory>
     requires { IsStrictlySortedBy hit_cmp hits.now }
     ensures { IfOk result (AreDead (keys_in findings.now) hits.now) }

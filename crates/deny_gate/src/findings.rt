@@ -1,14 +1,13 @@
-//! What a report tells of each key, and what it comes to.
+//! The findings of a report, and its verdict.
 ghost use Rattle.std.specs.Prelude.{◌≡◌, ◌++◌, map, IfOk, OnOk};
 ghost use Rattle.std.specs.List.{list_any, flat_map};
-ghost use Rattle.deny_gate.specs.Report.{has_error, fails_as, is_error};
+ghost use Rattle.deny_gate.specs.Report.{has_error, fails_as, verdict_of};
 ghost use Rattle.deny_gate.specs.private.Report.{finding_of, findings_of};
-ghost use Rattle.deny_gate.specs.Report.{verdict_by, verdict_of};
 ghost use Rattle.deny_gate.specs.Stats.{same_check};
 
 use crate::report::{Finding, Verdict};
 use deny_base::{Check, Diag, Kid, Pack, Severity};
-use deny_lists::{List, NoMemory};
+use deny_base_lists::{List, NoMemory};
 use std::alloc::Global;
 
 fn same_kid(kid: &Option<Kid>) -> Result<Option<Kid>, NoMemory>
@@ -58,7 +57,7 @@ pub fn findings_in(alloc: Global, packs: List<Pack>) -> Result<List<Finding>, No
 
 /// Whether a finding has severity error.
 #[tactic(auto, unfolding(crate::specs::Report::has_error))]
-fn has_error(finding: &Finding) -> bool
+pub fn has_error(finding: &Finding) -> bool
     ensures { result ≡ has_error finding.now }
 {
     matches!(finding.diag.diag.severity, Severity::Error)
@@ -70,7 +69,7 @@ pub(crate) fn same_check(a: Check, b: Check) -> bool
     a == b
 }
 
-/// Whether a finding makes a check fail.
+/// Whether a check fails by a finding.
 #[tactic(auto, unfolding(crate::specs::Report::fails_as))]
 fn fails_as(check: Check, finding: &Finding) -> bool
     ensures { result ≡ fails_as check finding.now }

@@ -1,24 +1,24 @@
 ghost use Rattle.std.specs.Prelude.{◌≡◌, ◌≢◌, ◌<◌, ◌^◌, ◌++◌, [], ◌∷◌, All, length, IfOk, IfErr, OnOk};
 ghost use Rattle.std.specs.Prelude.{is_some, option_copied};
-ghost use Rattle.deny_cfg.specs.LabelRanges.{AreLabels, licence_ranges, older_range, word_labels};
+ghost use Rattle.deny_cfg.specs.LabelSpans.{AreLabels, licence_spans, older_span, word_labels};
 ghost use Rattle.deny_cfg.specs.PolicyText.{IsPolicyOf, policy_files};
 ghost use Rattle.deny_cfg.specs.PolicyView.{AreGlobsRead, builtin_file_of, policy_view};
 ghost use Rattle.deny_krates.specs.Read.{IsGraphOf};
-ghost use Rattle.deny_outside.specs.Disk.{IsLater};
-ghost use Rattle.deny_codes.specs.Saying.{HasTable};
-ghost use Rattle.deny_codes.specs.StdReplacements.{asks_for_table};
-ghost use Rattle.deny_packages.specs.Why.{AreFoldersOf};
+ghost use Rattle.deny_base_disk.specs.Disk.{IsLater};
+ghost use Rattle.deny_spec_report.specs.Saying.{HasTable};
+ghost use Rattle.deny_spec_report.specs.StdReplacements.{asks_for_table};
+ghost use Rattle.deny_build_scan.specs.Why.{AreFoldersOf};
 ghost use Rattle.deny_spans.specs.Seen.{lock_file};
 ghost use Rattle.deny_spans.specs.Wanted.{AreWanted};
-ghost use Rattle.deny_toml.specs.Ranges.{IsRange};
-ghost use Rattle.deny_unread.specs.Bound.{Folders};
-ghost use Rattle.deny_unread.specs.Causes.{AreCaused};
+ghost use Rattle.deny_toml.specs.Spans.{IsSpan};
+ghost use Rattle.deny_base_unread.specs.Bound.{Folders};
+ghost use Rattle.deny_base_unread.specs.Causes.{AreCaused};
 ghost use Rattle.deny_gate.specs.Gating.{AreShort, IsCause, IsCausedReport};
 ghost use Rattle.deny_gate.specs.private.Gating.{AreEntriesApart, IsCauseBehind};
 ghost use Rattle.deny_gate.specs.Gating.{IsReportOf};
 ghost use Rattle.deny_gate.specs.private.Gating.{IsJudged, IsMetadataCause, IsPolicyCause, IsPolicyReport};
 ghost use Rattle.deny_gate.specs.Gating.{IsTableFor};
-ghost use Rattle.deny_gate.specs.private.Gating.{IsTableCause, IsTableCauseFor, IsToldOn};
+ghost use Rattle.deny_gate.specs.private.Gating.{IsTableCause, IsTableCauseFor, AreGraphResults};
 ghost use Rattle.deny_gate.specs.Gating.{texts_in};
 ghost use Rattle.deny_gate.specs.private.Gating.{extras_in, extras_of, report_with};
 ghost use Rattle.deny_gate.specs.Dead.{CanDoWithoutDead};
@@ -29,29 +29,29 @@ ghost use Rattle.deny_gate.specs.Stats.{code_of, exit_code};
 ghost use Rattle.deny_gate.specs.Unread.{of_manifests};
 ghost use Rattle.deny_gate.specs.declared.report.GateError.TheVariants.{Memory};
 
-use crate::checks::{Extras, Looked, looked_at};
+use crate::checks::{Extras, GraphResults, check_graph};
 use crate::dead::dead_of;
 use crate::findings::verdict_of;
 use crate::report::{GateError, Inputs, Report, Verdict};
 use crate::stats::{AllStats, all_stats};
 use deny_base::{EntryId, Files};
+use deny_base_disk::PackageFiles;
+use deny_base_lists::{List, NoMemory};
 use deny_cfg::bans::cfg::ValidConfig;
 use deny_cfg::{Policy, PolicyError, Scope, read_policy};
 use deny_krates::{Krates, MetadataFault};
-use deny_lists::{List, NoMemory};
-use deny_outside::PackageFiles;
 use deny_std::{ReplacementData, ReplacementError};
 use std::alloc::Global;
 
 /// The policy of a text.
-#[tactic(auto, using(crate::proofs::PolicyFiles::lock_stands, crate::proofs::PolicyFiles::read_there))]
+#[tactic(auto, using(crate::proofs::PolicyFiles::lock_number, crate::proofs::PolicyFiles::read_there))]
 fn policy_of(alloc: Global, text: &[u8], files: &mut Files) -> Result<Policy, GateError>
     requires small { length text.now < 2 ^ 28 }
     requires first { files.old ≡ [] }
     ensures ok { IfOk result (IsPolicyOf text.now policy_id) }
     ensures labels { IfOk result (λ policy. AreLabels text.now (word_labels policy.bans)) }
-    ensures licence_labels { IfOk result (λ policy. AreLabels text.now (licence_ranges policy.licenses)) }
-    ensures older_key { IfOk result (λ policy. All (IsRange text.now) (older_range policy.bans)) }
+    ensures licence_labels { IfOk result (λ policy. AreLabels text.now (licence_spans policy.licenses)) }
+    ensures older_key { IfOk result (λ policy. All (IsSpan text.now) (older_span policy.bans)) }
     ensures read { IfOk result (λ policy. AreGlobsRead policy.bans) }
     ensures apart { IfOk result AreEntriesApart }
     ensures err { IfErr result (IsPolicyCause text.now) }
@@ -61,7 +61,7 @@ fn policy_of(alloc: Global, text: &[u8], files: &mut Files) -> Result<Policy, Ga
     match read_policy(alloc, text, files) {
         Ok(policy) => Ok(policy),
         Err(PolicyError::Config(faults)) => Err(GateError::Config(faults)),
-        Err(PolicyError::Invalid(told)) => Err(GateError::Invalid(told)),
+        Err(PolicyError::Invalid(clashes)) => Err(GateError::Invalid(clashes)),
         Err(PolicyError::Memory) => Err(GateError::Memory),
     }
 }
@@ -79,17 +79,17 @@ fn read_graph(alloc: Global, bytes: &[u8]) -> Result<Krates, GateError>
     }
 }
 
-/// Whether a policy minds crates that the standard library replaces, and looks at some.
+/// Whether a policy checks for crates that the standard library replaces, and has some crates in scope.
 fn asks_for_table(cfg: &ValidConfig) -> bool
     ensures { result ≡ asks_for_table (policy_view cfg.now) }
 {
     match &cfg.std_replacements {
-        Some(minding) => !matches!(minding.scope, Scope::None),
+        Some(checking) => !matches!(checking.scope, Scope::None),
         None => false,
     }
 }
 
-/// Bytes have to be there, and to be a table of replacements.
+/// Checks that there are bytes, and that they are a table of replacements.
 fn check_table(alloc: Global, table: Option<&[u8]>) -> Result<(), GateError>
     ensures ok { OnOk result (HasTable (option_copied table.entry)) }
     ensures err { IfErr result (IsTableCause (option_copied table.entry)) }
@@ -104,7 +104,7 @@ fn check_table(alloc: Global, table: Option<&[u8]>) -> Result<(), GateError>
     }
 }
 
-/// The same where a configuration asks for a table; another never looks at the bytes.
+/// Checks the table of replacements where a configuration asks for one; otherwise the bytes are ignored.
 fn check_asked_table(
     alloc: Global,
     cfg: &ValidConfig,
@@ -120,17 +120,17 @@ fn check_asked_table(
     }
 }
 
-/// What was seen, with what is dead by what the checks tell of it, the counts of their findings, and the
-/// verdict on them.
+/// The results on a graph, with the dead entries, the counts of the findings, and the verdict on them.
 #[derive(Drop)]
 struct Judged {
-    looked: Looked,
+    checked: GraphResults,
     dead: List<EntryId>,
     stats: AllStats,
     verdict: Verdict,
 }
 
-/// What a policy comes to on a graph: the files of its manifests are put behind those of the policy.
+/// Checks a policy on a graph and judges the results. The files of manifests are put behind those of the
+/// policy.
 fn judged_on<D: PackageFiles>(
     alloc: Global,
     policy: &Policy,
@@ -145,31 +145,34 @@ fn judged_on<D: PackageFiles>(
     requires table { IsTableFor (policy_view policy.now.bans) (option_copied extras.now.table) }
     requires few { length files.old < 2 ^ 31 }
     requires before { length files.old ≡ lock_id (builtin_file_of policy.now.bans) }
-    ensures told { IfOk result (λ judged. IsToldOn (D.seen disk.old) (D.seen disk.new) policy.now krates.now
-        (extras_in extras.now) (files.old ++ lock_file krates.now.root krates.now ∷ []) files.new judged.looked) }
+    ensures results { IfOk result (λ judged. AreGraphResults (D.seen disk.old) (D.seen disk.new) policy.now krates.now
+        (extras_in extras.now) (files.old ++ lock_file krates.now.root krates.now ∷ []) files.new judged.checked) }
     ensures judged { IfOk result (IsJudged (is_some policy.now.licenses)) }
-    ensures wanted { IfOk result (λ judged. AreWanted krates.now (of_manifests judged.looked.unread)) }
+    ensures wanted { IfOk result (λ judged. AreWanted krates.now (of_manifests judged.checked.unread)) }
     ensures caused { IfOk result (λ judged. (folder : Folders) → AreFoldersOf krates.now folder →
-        AreCaused folder (D.seen disk.old) (D.seen disk.new) judged.looked.unread) }
+        AreCaused folder (D.seen disk.old) (D.seen disk.new) judged.checked.unread) }
     ensures later { IsLater (D.seen disk.old) (D.seen disk.new) }
 {
-    let looked = looked_at(alloc, policy, krates, extras, disk, files)?;
+    let checked = check_graph(alloc, policy, krates, extras, disk, files)?;
     let dead = dead_of(
         alloc,
-        looked.told.findings.as_slice(),
-        looked.told.hits.as_slice(),
+        checked.results.findings.as_slice(),
+        checked.results.hits.as_slice(),
     )?;
-    let stats = all_stats(policy.licenses.is_some(), looked.told.findings.as_slice());
-    let verdict = verdict_of(looked.told.findings.as_slice());
+    let stats = all_stats(
+        policy.licenses.is_some(),
+        checked.results.findings.as_slice(),
+    );
+    let verdict = verdict_of(checked.results.findings.as_slice());
     Ok(Judged {
-        looked,
+        checked,
         dead,
         stats,
         verdict,
     })
 }
 
-/// What is handed in besides a policy and metadata.
+/// The inputs besides a policy and metadata.
 fn extras_of(inputs: &Inputs) -> Extras<'_>
     ensures { extras_in result ≡ extras_of (texts_in inputs.now) }
 {
@@ -180,7 +183,7 @@ fn extras_of(inputs: &Inputs) -> Extras<'_>
     }
 }
 
-/// What a policy comes to on a graph with what is handed in, where the table is there that it asks for.
+/// Checks the table that a policy asks for, and then the policy on a graph with the other inputs.
 #[tactic(auto, using(crate::proofs::CauseLaws::no_table_cause))]
 fn judged_with_inputs<D: PackageFiles>(
     alloc: Global,
@@ -196,15 +199,15 @@ fn judged_with_inputs<D: PackageFiles>(
     requires graph { IsGraphOf inputs.now.metadata.items krates.now }
     requires few { length files.old < 2 ^ 31 }
     requires before { length files.old ≡ lock_id (builtin_file_of policy.now.bans) }
-    ensures told { IfOk result (λ judged. IsToldOn (D.seen disk.old) (D.seen disk.new) policy.now krates.now
+    ensures results { IfOk result (λ judged. AreGraphResults (D.seen disk.old) (D.seen disk.new) policy.now krates.now
         (extras_of (texts_in inputs.now)) (files.old ++ lock_file krates.now.root krates.now ∷ []) files.new
-        judged.looked) }
+        judged.checked) }
     ensures judged { IfOk result (IsJudged (is_some policy.now.licenses)) }
     ensures table { OnOk result (IsTableFor (policy_view policy.now.bans) (texts_in inputs.now).replacements) }
     ensures cause { IfErr result (IsCauseBehind (policy_view policy.now.bans) (texts_in inputs.now)) }
-    ensures wanted { IfOk result (λ judged. AreWanted krates.now (of_manifests judged.looked.unread)) }
+    ensures wanted { IfOk result (λ judged. AreWanted krates.now (of_manifests judged.checked.unread)) }
     ensures caused { IfOk result (λ judged. (folder : Folders) → AreFoldersOf krates.now folder →
-        AreCaused folder (D.seen disk.old) (D.seen disk.new) judged.looked.unread) }
+        AreCaused folder (D.seen disk.old) (D.seen disk.new) judged.checked.unread) }
     ensures untouched { IfErr result (λ error. error ≢ Memory → disk.new ≡ disk.old) }
     ensures later { IsLater (D.seen disk.old) (D.seen disk.new) }
 {
@@ -214,29 +217,29 @@ fn judged_with_inputs<D: PackageFiles>(
     Ok(judged)
 }
 
-/// The report that tells what was judged on a graph, with these files.
+/// The report of what was judged on a graph, with its files.
 fn report_with(files: Files, krates: Krates, judged: Judged) -> Report
     ensures { result ≡ report_with files krates judged }
 {
     let Judged {
-        looked,
+        checked,
         dead,
         stats,
         verdict,
     } = judged;
-    let Looked {
-        told,
+    let GraphResults {
+        results,
         unread,
         malformed,
-    } = looked;
+    } = checked;
     Report {
         files,
         krates,
-        findings: told.findings,
-        dup_edges: told.dup_edges,
+        findings: results.findings,
+        dup_edges: results.dup_edges,
         unread,
         malformed,
-        hits: told.hits,
+        hits: results.hits,
         dead,
         stats,
         verdict,
@@ -272,7 +275,7 @@ fn report_on_graph<D: PackageFiles>(
     Ok(report_with(files, krates, judged))
 }
 
-/// The report of a policy on the graph of metadata, with the table that it asks for.
+/// The report of a policy on the graph of metadata, with the table that the policy asks for.
 #[tactic(auto, using(crate::proofs::CauseLaws::no_graph_cause))]
 fn report_on_metadata<D: PackageFiles>(
     alloc: Global,
@@ -299,24 +302,21 @@ fn report_on_metadata<D: PackageFiles>(
     report_on_graph(alloc, files, policy, krates, inputs, disk)
 }
 
-/// Reads a policy, cargo's metadata and, where the policy asks for one, a table of replacements, and
-/// then the manifests of the graph and what the policy asks of its packages from the disk. It reports
-/// what stands: what the bans check finds, and behind it, where the policy writes `licenses`, what the
-/// licence check finds. The report fails by a bit for each check that has an error. It names the
-/// entries of the policy that are hit, and those that are dead: a finding calls them unused, and
-/// nothing hits them.
+/// Reads a policy, cargo's metadata and, where the policy asks for one, a table of replacements, and then
+/// from the disk the manifests of the graph and the packages that the policy asks for. It reports the
+/// findings of the bans check, and behind them, where the policy writes `licenses`, those of the licence
+/// check. The report fails by a bit for each check that has an error. It lists the entries of the policy
+/// that are hit, and those that are dead: a finding names them as unused, and nothing hits them.
 ///
-/// Each text has to be under 2^28 bytes. `Config` comes exactly where the policy's text has faults,
-/// `Invalid` exactly where it has none and entries clash, `Metadata` exactly where neither stands, and
-/// this is the first fault of the metadata, and `Replacement` exactly where none of them stands, the
-/// policy asks for a table, and no bytes came (0) or they first break at this offset. `Memory` can
-/// come at any point. Each label, be it of a finding or of a clash, lies on character boundaries in
-/// its file.
+/// Each text has to be under 2^28 bytes. The error is the first of these that applies: `Config` exactly
+/// where the policy's text has faults, `Invalid` exactly where entries clash, `Metadata` exactly where the
+/// metadata has a fault, which is its first, and `Replacement` exactly where the policy asks for a table,
+/// and no bytes came (0) or they first break at this offset. `Memory` can come at any point. Each label, of
+/// a finding or of a clash, lies on character boundaries in its file.
 ///
-/// A manifest that is not read, or is malformed, stops no report, nor does a folder or a file of a
-/// package: the report says so, and tells what stands by the others. Something is not read only where
-/// a call failed or it is too large. Where the texts have a cause that there is no report, nothing is
-/// read from the disk.
+/// A manifest that cannot be read or is malformed does not stop a report, nor does a folder or a file of a
+/// package: the report lists it, and is made of the others. Something is not read only where a call failed
+/// or it is too large. Where the inputs are the cause of an error, nothing is read from the disk.
 pub fn gate<D: PackageFiles>(
     alloc: Global,
     inputs: &Inputs,
@@ -326,24 +326,24 @@ pub fn gate<D: PackageFiles>(
     ensures report { IfOk result (IsReportOf (D.seen disk.old).files (texts_in inputs.now)) }
     ensures cause { IfErr result (IsCause (texts_in inputs.now)) }
     ensures headline { IfOk result (IsHeadlineOf (texts_in inputs.now)) }
-    // Any dead entries can go from the policy, where no list of wrappers is emptied: what stands
-    // without them is what the report tells, but for what names one of them as unused.
+    // Any dead entries can go from the policy, as long as no list of wrappers is emptied: the report
+    // without them is the same, except for findings that name one of them as unused.
     ensures dead_can_go { IfOk result (CanDoWithoutDead (D.seen disk.old).files (texts_in inputs.now)) }
     ensures exit_code { IfOk result (λ report. exit_code report.stats ≡ code_of report.verdict) }
     ensures labels { IfOk result (λ report. AreLabelled report.files report.findings) }
     ensures clash_labels { IfErr result (IsLabelledCause inputs.now.policy.items) }
     // Each entry for a manifest is for one that was to be read: of a crate without a source, or of the
-    // workspace. Those for packages are for what the policy asks of them, as the report says.
+    // workspace. Entries for packages are for what the policy asks of them.
     ensures wanted { IfOk result (λ report. AreWanted report.krates (of_manifests report.unread)) }
-    // What was not read has its causes, and those that no bound explains are at most as many as calls
-    // failed.
+    // What was not read has a cause, and the entries that no bound explains are at most as many as the
+    // calls that failed.
     ensures caused { IfOk result (IsCausedReport (D.seen disk.old) (D.seen disk.new) (texts_in inputs.now)) }
-    // Where the texts have a cause that there is no report, nothing was read.
+    // Where the inputs are the cause of an error, nothing was read.
     ensures untouched { IfErr result (λ error. error ≢ Memory → disk.new ≡ disk.old) }
     ensures later { IsLater (D.seen disk.old) (D.seen disk.new) }
 {
-    deny_laws::dead_can_go();
-    deny_laws::packages_stay();
+    deny_spec_removal::dead_can_go();
+    deny_spec_removal::packages_stay();
     let mut files = Files::new(alloc);
     let policy = policy_of(alloc, inputs.policy.as_slice(), &mut files)?;
     report_on_metadata(alloc, files, &policy, inputs, disk)

@@ -1,10 +1,10 @@
 //! The hits of a report.
-ghost use Rattle.std.specs.Prelude.{◌≡◌, ◌++◌, IfOk, OnOk};
+ghost use Rattle.std.specs.Prelude.{◌++◌, IfOk, OnOk};
 ghost use Rattle.deny_gate.specs.Hits.{AreHits};
 ghost use Rattle.deny_gate.specs.private.Hits.{IsOneEach};
 
 use deny_base::{Hit, entry_order};
-use deny_lists::{List, NoMemory};
+use deny_base_lists::{List, NoMemory};
 
 /// Puts hits in the order of their entries, each once.
 fn put_hits_in_order(hits: &mut List<Hit>) -> Result<(), NoMemory>

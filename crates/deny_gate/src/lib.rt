@@ -1,4 +1,4 @@
-//! The gate: from the texts of a policy and of cargo's metadata to the report of what stands.
+//! The gate: from the texts of a policy and of cargo's metadata to a report of findings.
 #![tactic(auto)]
 
 mod checks;
@@ -14,11 +14,12 @@ mod unread;
 
 /// Trees of the graph, by cargo-deny's names.
 pub mod grapher {
-    pub use deny_trees::grapher::{GraphNode, NodeInner};
+    pub use deny_krates_trees::grapher::{GraphNode, NodeInner};
 }
 
-pub use deny_json::{CsDiag, cs_diag_to_json, diag_to_json};
-pub use deny_trees::{GraphEnd, InclusionGrapher, write_graph_as_text};
+pub use deny_gate_json::{CsDiag, cs_diag_to_json, diag_to_json};
+pub use deny_krates_trees::{GraphEnd, InclusionGrapher, write_graph_as_text};
+pub use findings::has_error;
 pub use gating::gate;
 pub use laws::{dead_can_go, exit_codes, headline, one_answer, one_report};
 pub use report::{Finding, GateError, Inputs, Report, Verdict};

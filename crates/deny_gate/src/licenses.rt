@@ -1,3 +1,3 @@
 //! The check of `[licenses]`.
 
-pub use deny_licenses::check;
+pub use deny_gate_licenses::check;

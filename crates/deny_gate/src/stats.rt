@@ -9,7 +9,7 @@ use deny_base::{Check, Severity};
 
 /// How many findings of a check have each severity, and 2^32 - 1 where there are more. Bugs count
 /// nowhere.
-#[derive(Clone, Copy)]
+#[derive(Clone, Copy, Default)]
 pub struct Stats {
     pub errors: u32,
     pub warnings: u32,
@@ -18,7 +18,7 @@ pub struct Stats {
 }
 
 /// The counts of each check; none of a check that is not made.
-#[derive(Clone, Copy)]
+#[derive(Clone, Copy, Default)]
 pub struct AllStats {
     pub advisories: Option<Stats>,
     pub bans: Option<Stats>,
@@ -40,7 +40,7 @@ fn counts_as(check: Check, severity: Severity, finding: &Finding) -> bool
     same_severity(finding.diag.diag.severity, severity) && same_check(finding.check, check)
 }
 
-/// How many of these there are.
+/// How many findings of a check have a severity.
 fn count(check: Check, severity: Severity, findings: &[Finding]) -> usize
     ensures { result ≡ length (filter (counts_as check severity) findings.now) }
 {
@@ -50,7 +50,7 @@ fn count(check: Check, severity: Severity, findings: &[Finding]) -> usize
         .count()
 }
 
-/// The same up to 2^32 - 1.
+/// How many findings of a check have a severity, up to 2^32 - 1.
 #[tactic(auto, unfolding(crate::specs::Stats::number_of))]
 fn number_of(check: Check, severity: Severity, findings: &[Finding]) -> u32
     ensures { result ≡ number_of check severity findings.now }

@@ -1,10 +1,10 @@
-//! What a report says could not be read.
+//! What a report lists as unread.
 ghost use Rattle.std.specs.Prelude.{◌++◌, Contains, IfOk};
-ghost use Rattle.deny_lists.specs.Ascending.{Lists};
-ghost use Rattle.deny_unread.specs.Unread.{unread_cmp};
+ghost use Rattle.deny_base_lists.specs.Ascending.{Lists};
+ghost use Rattle.deny_base.specs.Unread.{unread_cmp};
 
-use deny_lists::{List, NoMemory, put_in_order};
-use deny_unread::{Unread, unread_order};
+use deny_base_lists::{List, NoMemory, put_in_order};
+use deny_base_unread::{Unread, unread_order};
 
 /// What was not read of manifests and of packages, by crate, path and purpose, each once.
 pub fn joined_unread(

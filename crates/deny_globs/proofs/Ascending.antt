@@ -1,4 +1,4 @@
--- Numbers that ascend, with a higher one behind them.
+-- Ascending numbers, with a higher one appended.
 use Rattle.std.proofs.Common.{◌≡◌, ℕ, suc, ◌<◌, List, [], ◌∷◌, ◌++◌, refl, sym, arith}
 use Rattle.std.specs.Prelude.{Contains}
 use Rattle.std.specs.List.{AllByRecursion}

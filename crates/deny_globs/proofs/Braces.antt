@@ -6,36 +6,36 @@ use Rattle.deny_globs.specs.declared.token.Token.{Token}
 use Rattle.deny_globs.specs.declared.token.Token.TheVariants.{Character, AnyText, MiddleFolders, Alternatives}
 use Rattle.deny_globs.specs.declared.piece.Piece.{Piece}
 use Rattle.deny_globs.specs.declared.piece.Piece.TheVariants.{Token as Whole, Middle, Open, Comma, Close}
-use Rattle.deny_globs.specs.declared.reading.Opened.{Opened}
-use Rattle.deny_globs.specs.declared.reading.Reading.{Reading}
+use Rattle.deny_globs.specs.declared.reading.OpenBrace.{OpenBrace}
+use Rattle.deny_globs.specs.declared.reading.GlobReading.{GlobReading}
 use Rattle.deny_globs.specs.Characters.{slash, comma}
 use Rattle.deny_globs.specs.Tree.{most_braces, AreTokens, nothing, token, middle, middle_inside, comma_outside, braces}
 use Rattle.deny_globs.specs.Tree.{AreAlternatives, last, more}
 use Rattle.deny_globs.specs.private.Reading.{middle_of, parted, closed, after_piece}
 
-abbrev pub state : List Opened → List Token → Reading
+abbrev pub state : List OpenBrace → List Token → GlobReading
 state opened tokens = record { opened = opened; tokens = tokens }
 
-abbrev pub start : Reading
+abbrev pub start : GlobReading
 start = state [] []
 
--- what is read with all the pieces
-abbrev pub run : Reading → List Piece → Option Reading
+-- the reading after all of the pieces
+abbrev pub run : GlobReading → List Piece → Option GlobReading
 run reading [] = Some reading
 run reading (piece ∷ pieces) = option_and_then (λ next. run next pieces) (after_piece reading piece)
 
-abbrev pub brace : ℕ → List Token → List (List Token) → Opened
+abbrev pub brace : ℕ → List Token → List (List Token) → OpenBrace
 brace at before alternatives = record { at = at; before = before; alternatives = alternatives }
 
--- the grammar's tokens are read
+-- ---- the tokens of the grammar are read
 
-opened_less : (opened : List Opened) (depth : ℕ) → length opened ≡ depth → depth < most_braces
+opened_less : (opened : List OpenBrace) (depth : ℕ) → length opened ≡ depth → depth < most_braces
     → nat_lt (length opened) most_braces ≡ true
 opened_less opened depth e p = let q : length opened < most_braces = omega arith in search rules
 
 mutual
   run_tokens : {depth : ℕ} {pieces : List Piece} {ts : List Token} → AreTokens depth pieces ts
-      → (opened : List Opened) (tokens : List Token) (rest : List Piece) → length opened ≡ depth →
+      → (opened : List OpenBrace) (tokens : List Token) (rest : List Piece) → length opened ≡ depth →
       run (state opened tokens) (pieces ++ rest) ≡ run (state opened (tokens ++ ts)) rest
   run_tokens nothing opened tokens rest e = ap (λ l. run (state opened l) rest) (sym (append-nil tokens))
   run_tokens (token {token = t} {tokens = ts} a) opened tokens rest e =
@@ -64,7 +64,7 @@ mutual
       ∙ ap (λ l. run (state opened l) rest) (append_assoc tokens (one ∷ []) ts)
 
   run_alternatives : {depth : ℕ} {pieces : List Piece} {ends : List (List Token)} → AreAlternatives depth pieces ends
-      → (b : Opened) (outer : List Opened) (rest : List Piece) (to : ℕ) → suc (length outer) ≡ depth →
+      → (b : OpenBrace) (outer : List OpenBrace) (rest : List Piece) (to : ℕ) → suc (length outer) ≡ depth →
       run (state (b ∷ outer) []) (pieces ++ Close to ∷ rest)
       ≡ run (state outer (b.before ++ Alternatives (b.alternatives ++ ends) ∷ [])) rest
   run_alternatives (last a) b outer rest to e = run_tokens a (b ∷ outer) [] (Close to ∷ rest) e
@@ -78,17 +78,17 @@ pub run_of_tokens : {pieces : List Piece} {tokens : List Token} → AreTokens 0 
     → run start pieces ≡ Some (state [] tokens)
 run_of_tokens {pieces} a = ap (run start) (sym (append-nil pieces)) ∙ run_tokens a [] [] [] refl
 
--- what is read are the grammar's tokens
+-- ---- the tokens that are read are in the grammar
 
-pub data AreEnded : ℕ → List Piece → List (List Token) → Type 0 where
+data AreEnded : ℕ → List Piece → List (List Token) → Type 0 where
   none : {depth : ℕ} → AreEnded depth [] []
   ended : {depth : ℕ} {tokens : List Token} {alternatives : List (List Token)} (before pieces : List Piece)
       → AreEnded depth before alternatives → AreTokens depth pieces tokens →
       AreEnded depth (before ++ (pieces ++ Comma ∷ [])) (alternatives ++ tokens ∷ [])
 
-pub data Held : List Opened → List Token → List Piece → Type 0 where
+data Held : List OpenBrace → List Token → List Piece → Type 0 where
   outside : {tokens : List Token} {pieces : List Piece} → AreTokens 0 pieces tokens → Held [] tokens pieces
-  inside : {b : Opened} {outer : List Opened} {tokens : List Token} (before ends pieces : List Piece)
+  inside : {b : OpenBrace} {outer : List OpenBrace} {tokens : List Token} (before ends pieces : List Piece)
       → length outer < most_braces → Held outer b.before before →
       AreEnded (suc (length outer)) ends b.alternatives → AreTokens (suc (length outer)) pieces tokens
       → Held (b ∷ outer) tokens (before ++ Open b.at ∷ (ends ++ pieces))
@@ -105,7 +105,7 @@ tokens_append {depth} {qs = qs} {us = us}
     subst (λ l. AreTokens depth (Open from ∷ l) (Alternatives alternatives ∷ (ts ++ us)))
     (sym (append_assoc within (Close to ∷ behind) qs)) (braces within (behind ++ qs) to less a (tokens_append c b))
 
-held_more : {opened : List Opened} {tokens us : List Token} {pieces qs : List Piece} → Held opened tokens pieces
+held_more : {opened : List OpenBrace} {tokens us : List Token} {pieces qs : List Piece} → Held opened tokens pieces
     → AreTokens (length opened) qs us → Held opened (tokens ++ us) (pieces ++ qs)
 held_more (outside a) b = outside (tokens_append a b)
 held_more {us = us} {qs = qs} (inside {b} {outer} {tokens} before ends pieces less h e a) c =
@@ -124,7 +124,7 @@ alternatives_of {depth} {pieces = pieces} {us = us} (ended {tokens = t} {alterna
     (subst (λ l. AreAlternatives depth (before ++ (qs ++ Comma ∷ pieces)) l) (sym (append_assoc ts (t ∷ []) us))
     (alternatives_of e (more qs pieces b a)))
 
-held_open : (c : Bool) (at : ℕ) (opened : List Opened) (tokens : List Token) (done : List Piece) (next : Reading)
+held_open : (c : Bool) (at : ℕ) (opened : List OpenBrace) (tokens : List Token) (done : List Piece) (next : GlobReading)
     → nat_lt (length opened) most_braces ≡ c → Held opened tokens done →
     cond c (Some (state (brace at tokens [] ∷ opened) [])) None ≡ Some next
     → Held next.opened next.tokens (done ++ Open at ∷ [])
@@ -134,23 +134,23 @@ held_open true at opened tokens done next l h e =
     subst (λ r. Held r.opened r.tokens (done ++ Open at ∷ [])) same (inside done [] [] less h none nothing)
 held_open false at opened tokens done next l h e = cc
 
-held_middle : (opened : List Opened) (tokens : List Token) (done : List Piece) → Held opened tokens done
+held_middle : (opened : List OpenBrace) (tokens : List Token) (done : List Piece) → Held opened tokens done
     → Held opened (tokens ++ middle_of opened) (done ++ Middle ∷ [])
 held_middle [] tokens done h = held_more h (middle nothing)
 held_middle (b ∷ opened) tokens done h = held_more h (middle_inside nothing)
 
-held_part : {opened : List Opened} {tokens : List Token} {done : List Piece} → Held opened tokens done
+held_part : {opened : List OpenBrace} {tokens : List Token} {done : List Piece} → Held opened tokens done
     → Held (parted opened tokens).opened (parted opened tokens).tokens (done ++ Comma ∷ [])
 held_part (outside a) = outside (tokens_append a (comma_outside nothing))
 held_part (inside {b} {outer} {tokens} before ends pieces less h e a) =
-    let after : Opened = brace b.at b.before (b.alternatives ++ tokens ∷ []) in
+    let after : OpenBrace = brace b.at b.before (b.alternatives ++ tokens ∷ []) in
     subst (λ l. Held (after ∷ outer) [] l)
     (ap (λ l. before ++ Open b.at ∷ l) (append-nil (ends ++ (pieces ++ Comma ∷ []))
     ∙ sym (append_assoc ends pieces (Comma ∷ [])))
     ∙ sym (append_assoc before (Open b.at ∷ (ends ++ pieces)) (Comma ∷ [])))
     (inside {b = after} before (ends ++ (pieces ++ Comma ∷ [])) [] less h (ended ends pieces e a) nothing)
 
-held_close : {opened : List Opened} {tokens : List Token} {done : List Piece} (to : ℕ) (next : Reading)
+held_close : {opened : List OpenBrace} {tokens : List Token} {done : List Piece} (to : ℕ) (next : GlobReading)
     → Held opened tokens done → closed opened tokens ≡ Some next → Held next.opened next.tokens (done ++ Close to ∷ [])
 held_close to next (outside a) c = cc
 held_close to next (inside {b} {outer} {tokens} before ends pieces less h e a) c =
@@ -160,7 +160,7 @@ held_close to next (inside {b} {outer} {tokens} before ends pieces less h e a) c
     (sym (append_assoc before (Open b.at ∷ (ends ++ pieces)) (Close to ∷ [])))
     (held_more h (braces (ends ++ pieces) [] to less (alternatives_of e (last a)) nothing)))
 
-held_after : (piece : Piece) (reading next : Reading) (done : List Piece) → Held reading.opened reading.tokens done
+held_after : (piece : Piece) (reading next : GlobReading) (done : List Piece) → Held reading.opened reading.tokens done
     → after_piece reading piece ≡ Some next → Held next.opened next.tokens (done ++ piece ∷ [])
 held_after (Whole t) reading next done h e =
     let same : state reading.opened (reading.tokens ++ t ∷ []) ≡ next = cc in
@@ -175,13 +175,14 @@ held_after Comma reading next done h e =
     subst (λ r. Held r.opened r.tokens (done ++ Comma ∷ [])) same (held_part h)
 held_after (Close at) reading next done h e = held_close at next h e
 
-pub after_some : (read : Option Reading) (pieces : List Piece) (end : Reading)
+pub after_some : (read : Option GlobReading) (pieces : List Piece) (end : GlobReading)
     → option_and_then (λ next. run next pieces) read ≡ Some end
-    → (next : Reading) × (read ≡ Some next) × (run next pieces ≡ Some end)
+    → (next : GlobReading) × (read ≡ Some next) × (run next pieces ≡ Some end)
 after_some None pieces end e = cc
 after_some (Some next) pieces end e = (next, refl, e)
 
-run_held : (pieces : List Piece) (reading end : Reading) (done : List Piece) → Held reading.opened reading.tokens done
+run_held : (pieces : List Piece) (reading end : GlobReading) (done : List Piece) → Held reading.opened reading.tokens
+    done
     → run reading pieces ≡ Some end → Held end.opened end.tokens (done ++ pieces)
 run_held [] reading end done h e =
     let same : reading ≡ end = cc in
@@ -199,7 +200,7 @@ pub tokens_of_run : (pieces : List Piece) (tokens : List Token) → run start pi
     → AreTokens 0 pieces tokens
 tokens_of_run pieces tokens e = outside_only (run_held pieces start (state [] tokens) [] (outside nothing) e)
 
-pub run_more : (pieces : List Piece) (piece : Piece) (reading middle_reading end : Reading)
+pub run_more : (pieces : List Piece) (piece : Piece) (reading middle_reading end : GlobReading)
     → run reading pieces ≡ Some middle_reading → after_piece middle_reading piece ≡ Some end
     → run reading (pieces ++ piece ∷ []) ≡ Some end
 run_more [] piece reading mid end e f =

@@ -4,8 +4,8 @@ use Rattle.std.proofs.Common.{IsTrue, refl, sym, ap, subst, inl, inr, ◌∙◌,
 use Rattle.std.proofs.lemmas.List.{take-append-drop, length-take-le}
 use Rattle.deny_globs.proofs.Seams.{seam}
 use Rattle.std.specs.Prelude.{◌==◌, ◌&&◌, ◌||◌, not}
-use Rattle.deny_lists.proofs.Booleans.{and-true, and-false}
-use Rattle.deny_lists.proofs.Equalities.{subst₃}
+use Rattle.deny_base_lists.proofs.Booleans.{and-true, and-false}
+use Rattle.deny_base_lists.proofs.Equalities.{subst₃}
 use Rattle.deny_globs.specs.declared.token.CharacterRange.{CharacterRange}
 use Rattle.deny_globs.specs.declared.stop.Stop.{Stop}
 use Rattle.deny_globs.specs.declared.stop.Stop.TheVariants.{Fault, Memory}
@@ -38,32 +38,13 @@ added_range (a ∷ b ∷ c ∷ rest) first last old new h f l le e =
     let whole : a ∷ b ∷ c ∷ rest ≡ first ∷ dash ∷ last ∷ rest = cc in
     adds_range whole (subst (λ x. IsTrue (not (x == close_bracket))) (sym l) t.1) le refl e
 
-pub is_falling : (rest : List ℕ) (first last : ℕ) → begins_range (drop 1 rest) ≡ true → first ≡ get_or rest 0 first
-    → last ≡ get_or rest 2 last → last < first → IsFalling rest
-is_falling [] first last h f l lt = cc
-is_falling (a ∷ []) first last h f l lt = cc
-is_falling (a ∷ b ∷ []) first last h f l lt = cc
-is_falling (a ∷ b ∷ c ∷ rest) first last h f l lt =
-    let t = both_true (b == dash) (not (c == close_bracket)) h in
-    let between : b ≡ dash = same_number b dash t.0 in
-    let whole : a ∷ b ∷ c ∷ rest ≡ first ∷ dash ∷ last ∷ rest = cc in
-    record {
-      first = first;
-      last = last;
-      behind = rest;
-      whole = whole;
-      is_last = subst
-          (λ x. IsTrue (not (x == close_bracket))) (sym l) t.1;
-      falls = lt;
-    }
-
 pub added_one : (rest : List ℕ) (c : ℕ) (old new : List CharacterRange) → begins_range (drop 1 rest) ≡ false
     → 0 < length rest → c ≡ get_or rest 0 c →
     new ≡ old ++ record { first = c; last = c } ∷ [] → AddsMember rest 1 old new
 added_one [] c old new h p f e = absurd (omega arith)
 added_one (a ∷ rest) c old new h p f e = adds_one (ap (λ x. x ∷ rest) (sym f)) h refl e
 
--- a member more, behind others
+-- ---- one more member after others
 
 snoc_range : {is_first : Bool} {cs : List ℕ} {ranges : List CharacterRange} (first last : ℕ) (behind : List ℕ)
     → AreMembers is_first cs (first ∷ dash ∷ last ∷ behind) ranges →
@@ -88,17 +69,17 @@ snoc_one c behind (one {is_first} {cs = cs} x y rest) m b =
     one x (subst (λ ds. begins_range ds ≡ false) (sym (append_assoc cs (c ∷ []) behind)) y)
     (snoc_one c behind rest (subst (λ t. IsTrue (may_be_member t c)) (and-false is_first) m) b)
 
--- the loop over the members
+-- ---- the loop over the members
 
 pub record AreMembersTo (body : List ℕ) (next : ℕ) (ranges : List CharacterRange) : Type 0 where
   pub within : next ≤ length body
   pub members : AreMembers true (take next body) (drop next body) ranges
 
--- the first may be any character, and each later one is no `]`
-may_stand : (body : List ℕ) (next c : ℕ) (rest : List ℕ) → next ≤ length body → drop next body ≡ c ∷ rest
+-- the first member may be any character, and each later one is no `]`
+may_duplicate : (body : List ℕ) (next c : ℕ) (rest : List ℕ) → next ≤ length body → drop next body ≡ c ∷ rest
     → GoesOnAt body next → IsTrue (may_be_member (is_empty (take next body)) c)
-may_stand body next c rest p e (inl z) = rw z refl
-may_stand body next c rest p e (inr n) =
+may_duplicate body next c rest p e (inl z) = rw z refl
+may_duplicate body next c rest p e (inr n) =
     other (is_empty (take next body)) (subst (λ l. begins close_bracket l ≡ false) e n) where
       other : (b : Bool) → (c == close_bracket) ≡ false → IsTrue (b || not (c == close_bracket))
       other true h = refl
@@ -114,7 +95,7 @@ members_more body next size old new before (adds_range {rest} {behind} {first} {
       within = m.fits;
       members = moved (take next body) (take (next + size) body) (drop (next + size) body) m.prefix m.rest
           (subst (λ r. AreMembers true (take next body) r old) w before.members)
-          (may_stand body next first _ before.within w q) l le;
+          (may_duplicate body next first _ before.within w q) l le;
     }
   where
     moved : (prefix longer after : List ℕ) → longer ≡ prefix ++ first ∷ dash ∷ last ∷ [] → after ≡ behind
@@ -129,7 +110,7 @@ members_more body next size old new before (adds_one {rest} {behind} {c} w b s e
       within = m.fits;
       members = moved (take next body) (take (next + size) body) (drop (next + size) body) m.prefix m.rest
           (subst (λ r. AreMembers true (take next body) r old) w before.members)
-          (may_stand body next c _ before.within w q);
+          (may_duplicate body next c _ before.within w q);
     }
   where
     moved : (prefix longer after : List ℕ) → longer ≡ prefix ++ c ∷ [] → after ≡ behind
@@ -138,7 +119,7 @@ members_more body next size old new before (adds_one {rest} {behind} {c} w b s e
     moved prefix longer after a d ms m =
         subst₃ (AreMembers true) (sym a) (sym d) (sym e) (snoc_one c behind ms m b)
 
-pub members_fall : (body : List ℕ) (next : ℕ) (ranges : List CharacterRange) → AreMembersTo body next ranges
+members_fall : (body : List ℕ) (next : ℕ) (ranges : List CharacterRange) → AreMembersTo body next ranges
     → IsFalling (drop next body) →
     GoesOnAt body next → FallsAt body next
 members_fall body next ranges before f q =
@@ -149,7 +130,7 @@ members_fall body next ranges before f q =
     (subst (λ b. FallsAt b (length (take next body))) (sym e)
     (falls (take next body) f.behind f.first f.last
     (subst (λ r. AreMembers true (take next body) r ranges) f.whole before.members)
-    (may_stand body next f.first _ before.within f.whole q) f.is_last f.falls))
+    (may_duplicate body next f.first _ before.within f.whole q) f.is_last f.falls))
 
 pub members_begin : (body : List ℕ) → AreMembersTo body 0 []
 members_begin body = record { within = omega arith; members = no_more }

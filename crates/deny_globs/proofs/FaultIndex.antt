@@ -10,9 +10,9 @@ use Rattle.deny_globs.specs.declared.error.GlobError.TheVariants.{Bad}
 use Rattle.std.proofs.Math.Nat.{zero-add, add-zero}
 use Rattle.std.proofs.lemmas.List.{append_cancel_right}
 use Rattle.std.proofs.lemmas.Bool.{cond-true, cond-false}
-use Rattle.deny_lists.proofs.Options.{some_inj}
-use Rattle.deny_lists.proofs.Booleans.{and-true, and-false}
-use Rattle.deny_lists.proofs.Numbers.{nat_le-true}
+use Rattle.deny_base_lists.proofs.Options.{some_inj}
+use Rattle.deny_base_lists.proofs.Booleans.{and-true, and-false}
+use Rattle.deny_base_lists.proofs.Numbers.{nat_le-true}
 use Rattle.deny_globs.specs.declared.token.CharacterRange.{CharacterRange}
 use Rattle.deny_globs.specs.declared.piece.Piece.{Piece}
 use Rattle.deny_globs.specs.declared.piece.Piece.TheVariants.{Open, Close}
@@ -27,7 +27,7 @@ use Rattle.deny_globs.proofs.ClassLemmas.{same_number}
 use Rattle.deny_globs.proofs.Once.{begun_by, piece_at, class_at, class_of, Members, with_range, members_at, same_piece}
 use Rattle.deny_globs.proofs.Once.{begun, first_of_pair, open_append, nat_le_false}
 
--- how the members of a class end, so many characters into it: none where a `]` closes it
+-- the end of the members of a class, by the number of characters: unclosed, or closed by a `]`
 
 data End : Type 0 where
   closes : End
@@ -78,7 +78,7 @@ end_falling (falls {ranges} members behind x y m may l lt) =
     ∙ cond-false (nat_le x y) _ _ (nat_le_false x y lt)
     ∙ ap falls_at (zero-add (length members))
 
--- where the text is bad at what comes next, if it is
+-- the index at which the text is bad in its next piece, if it is
 
 abbrev end_index : ℕ → ℕ → End → Option ℕ
 end_index body unclosed closes = None
@@ -160,7 +160,7 @@ stuck (unclosed_class {ranges = ranges} before mark members opened r m a) = reco
 stuck {characters} (unclosed_brace last opened r) = record
     { before = characters; behind = []; opened = last ∷ opened; read = r; is_at = refl }
 
--- nothing is read on from there
+-- nothing is read after the end of the members
 
 abbrev IsNotClosed : End → Type 0
 IsNotClosed closes = ⊥
@@ -272,7 +272,7 @@ ends_there at index opened (c ∷ cs) rest q more e p = close (c == close_brace)
       (ap (λ x. piece_at at (x ∷ cs)) (sym (same_number c close_brace i)) ∙ p)
   close false i h = open_ (c == open_brace) refl h
 
--- of two ways of reading one is the beginning of the other
+-- of two readings one is the beginning of the other
 
 record Longer (at : ℕ) (behind left : List ℕ) (first second : List Piece) : Type 0 where
   middle : List ℕ
@@ -339,7 +339,7 @@ spells_none nothing = refl
 same_list : {a b : List ℕ} → Some a ≡ Some b → a ≡ b
 same_list e = cc
 
--- what is read of one begins what is read of the other, and then both are at the same index
+-- one reading begins the other, and both are stuck at the same index
 at_same : (characters : List ℕ) (i j : ℕ) (s : IsStuck characters i) (t : IsStuck characters j)
     → Longer (0 + length s.before) s.behind t.behind s.read.pieces t.read.pieces → i ≡ j
 at_same characters i j s t l = cases l.more l.pieces l.spelled where
@@ -365,7 +365,7 @@ at_same characters i j s t l = cases l.more l.pieces l.spelled where
       ∙ ends_there (length s.before) i s.opened s.behind b.0 q more s.is_at at in
       cc
 
-pub fault_once : {characters : List ℕ} {i j : ℕ} → FirstFault characters i → FirstFault characters j → i ≡ j
+fault_once : {characters : List ℕ} {i j : ℕ} → FirstFault characters i → FirstFault characters j → i ≡ j
 fault_once {characters} {i} {j} f g =
     let s = stuck f in
     let t = stuck g in

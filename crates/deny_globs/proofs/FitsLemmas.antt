@@ -1,21 +1,21 @@
--- How texts of tokens are taken apart.
+-- Texts of tokens, split into their parts.
 use Rattle.std.proofs.Common.{◌≡◌, ℕ, List, [], ◌∷◌, ◌++◌, Bool, true, false, IsTrue, refl, sym, ap, subst, ◌∙◌}
 use Rattle.std.proofs.Common.{append_assoc, rules}
 use Rattle.std.specs.Prelude.{nat_eq}
-use Rattle.deny_globs.specs.declared.token.Class.{Class}
+use Rattle.deny_globs.specs.declared.token.CharacterClass.{CharacterClass}
 use Rattle.deny_globs.specs.Class.{class_takes}
 use Rattle.deny_globs.specs.declared.token.Token.{Token}
 use Rattle.deny_globs.specs.declared.token.Token.TheVariants.{Character, AnyCharacter, OneOf}
 use Rattle.deny_globs.specs.Fits.{IsText, itself, any_character, member, Fits, nothing, joined}
 
--- whether the token takes the character, where it stands for one
+-- whether a token of one character takes the character
 abbrev pub takes : Token → ℕ → Bool
 takes (Character d) c = nat_eq d c
 takes AnyCharacter c = true
 takes (OneOf class) c = class_takes class c
 takes _ c = false
 
--- the first token's text, and the others'
+-- The text of the first token, and that of the others.
 pub record Split (token : Token) (tokens : List Token) (cs : List ℕ) : Type 0 where
   pub prefix : List ℕ
   pub rest : List ℕ
@@ -26,7 +26,7 @@ pub record Split (token : Token) (tokens : List Token) (cs : List ℕ) : Type 0 
 pub split_first : {token : Token} {tokens : List Token} {cs : List ℕ} → Fits (token ∷ tokens) cs → Split token tokens cs
 split_first (joined prefix rest t f) = record { prefix = prefix; rest = rest; whole = refl; is_text = t; fits = f }
 
--- tokens that fit one after the other fit together
+-- the texts of a token and of the tokens after it fit together
 pub fits_joined : {token : Token} {tokens : List Token} {cs : List ℕ} (prefix rest : List ℕ) → cs ≡ prefix ++ rest
     → IsText token prefix → Fits tokens rest → Fits (token ∷ tokens) cs
 fits_joined {token} {tokens} {cs} prefix rest e t f = subst (λ ds. Fits (token ∷ tokens) ds) (sym e)
@@ -35,7 +35,7 @@ fits_joined {token} {tokens} {cs} prefix rest e t f = subst (λ ds. Fits (token 
 pub nothing_fits : {cs : List ℕ} → Fits [] cs → cs ≡ []
 nothing_fits nothing = refl
 
--- two lists of tokens
+-- The texts of two lists of tokens.
 pub record SplitList (first_tokens tokens : List Token) (cs : List ℕ) : Type 0 where
   pub prefix : List ℕ
   pub rest : List ℕ
@@ -63,7 +63,7 @@ fits_list nothing g = g
 fits_list {tokens = tokens} {rest = rest} (joined a b t f) g =
     fits_joined a (b ++ rest) (append_assoc a b rest) t (fits_list f g)
 
--- a token that stands for one character, by the test that takes it
+-- The token has texts of one character, those that the test takes.
 pub record TakesOne (token : Token) : Type 0 where
   pub text_of_taken : (c : ℕ) → IsTrue (takes token c) → IsText token (c ∷ [])
   pub taken_of_text : (cs : List ℕ) → IsText token cs → (c : ℕ) × (cs ≡ c ∷ []) × IsTrue (takes token c)
@@ -87,7 +87,7 @@ any_character_takes = record {
   taken : (cs : List ℕ) → IsText AnyCharacter cs → (c : ℕ) × (cs ≡ c ∷ []) × IsTrue true
   taken cs (any_character c) = (c, refl, refl)
 
-pub class_takes_one : (class : Class) → TakesOne (OneOf class)
+pub class_takes_one : (class : CharacterClass) → TakesOne (OneOf class)
 class_takes_one class = record {
   text_of_taken = λ c h. member class c h;
   taken_of_text = taken;

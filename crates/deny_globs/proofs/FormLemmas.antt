@@ -101,7 +101,7 @@ one_fits : (rest : List Token) (alternatives : List (List Token)) (prefix back :
 one_fits rest alternatives prefix back (first t) f = the_first (fits_list t f)
 one_fits rest alternatives prefix back (later t) f = another (one_fits rest _ prefix back t f)
 
--- what a text of the token says of its alternatives
+-- the texts of a token with alternatives, by its alternatives
 abbrev OfAlternatives : Token-F Token → List ℕ → Type 0
 OfAlternatives (Token-F.Alternatives alternatives) cs = IsTextOfOne alternatives cs
 OfAlternatives _ cs = Unit {0}
@@ -129,7 +129,7 @@ one_from_fits rest alternatives cs f =
     subst (λ ds. OneFits rest alternatives ds) (sym s.whole)
     (one_fits rest alternatives s.prefix s.rest (text_of_one alternatives s.prefix s.is_text) s.fits)
 
-pub record OneSplit (rest : List Token) (alternatives : List (List Token)) (cs : List ℕ) : Type 0 where
+record OneSplit (rest : List Token) (alternatives : List (List Token)) (cs : List ℕ) : Type 0 where
   pub prefix : List ℕ
   pub back : List ℕ
   pub whole : cs ≡ prefix ++ back

@@ -5,14 +5,14 @@ use Rattle.std.specs.Prelude.{reverse, Some, None, nat_lt}
 use Rattle.std.proofs.Math.Nat.{zero-add}
 use Rattle.std.proofs.Math.Seq.{take-length, drop-length}
 use Rattle.std.proofs.lemmas.List.{take-append-drop, length-take-le, map-append, reverse-append, length-reverse}
-use Rattle.deny_lists.proofs.Options.{some_inj}
+use Rattle.deny_base_lists.proofs.Options.{some_inj}
 use Rattle.deny_globs.specs.declared.token.Token.{Token}
 use Rattle.deny_globs.specs.declared.piece.Piece.{Piece}
 use Rattle.deny_globs.specs.declared.piece.Piece.TheVariants.{Token as Whole, Middle, Open, Comma, Close}
 use Rattle.deny_globs.specs.declared.stop.Stop.{Stop}
 use Rattle.deny_globs.specs.declared.stop.Stop.TheVariants.{Fault, Memory}
-use Rattle.deny_globs.specs.declared.reading.Opened.{Opened}
-use Rattle.deny_globs.specs.declared.reading.Reading.{Reading}
+use Rattle.deny_globs.specs.declared.reading.OpenBrace.{OpenBrace}
+use Rattle.deny_globs.specs.declared.reading.GlobReading.{GlobReading}
 use Rattle.deny_globs.specs.Characters.{open_brace, close_brace}
 use Rattle.deny_globs.specs.Pieces.{IsPiece, open_braces, close_braces, Spells, nothing}
 use Rattle.deny_globs.specs.Tree.{most_braces, IsGlob}
@@ -28,17 +28,18 @@ use Rattle.deny_globs.proofs.Seams.{seam}
 use Rattle.deny_globs.proofs.Spelling.{spells_more}
 
 -- the indices of braces
-abbrev pub indices : List Opened → List ℕ
+abbrev indices : List OpenBrace → List ℕ
 indices opened = map (λ b. b.at) opened
 
-pub some_is : {r s : Reading} → Some r ≡ Some s → r ≡ s
+pub some_is : {r s : GlobReading} → Some r ≡ Some s → r ≡ s
 some_is e = cc
 
-length-indices : (opened : List Opened) → length (indices opened) ≡ length opened
+length-indices : (opened : List OpenBrace) → length (indices opened) ≡ length opened
 length-indices [] = refl
 length-indices (b ∷ opened) = ap suc (length-indices opened)
 
-open_open : (c : Bool) (at : ℕ) (opened : List Opened) (tokens : List Token) (next : Reading) (pieces : List Piece)
+open_open : (c : Bool) (at : ℕ) (opened : List OpenBrace) (tokens : List Token) (next : GlobReading)
+    (pieces : List Piece)
     → nat_lt (length opened) most_braces ≡ c →
     cond c (Some (state (brace at tokens [] ∷ opened) [])) None ≡ Some next →
     (cond (nat_lt (length (indices opened)) most_braces) (open_behind (at ∷ indices opened) pieces) None
@@ -56,11 +57,11 @@ open_open true at opened tokens next pieces l e =
     )
 open_open false at opened tokens next pieces l e = cc
 
-open_part : (opened : List Opened) (tokens : List Token) → indices (parted opened tokens).opened ≡ indices opened
+open_part : (opened : List OpenBrace) (tokens : List Token) → indices (parted opened tokens).opened ≡ indices opened
 open_part [] tokens = refl
 open_part (b ∷ opened) tokens = refl
 
-open_close : (opened : List Opened) (tokens : List Token) (next : Reading) (to : ℕ) (pieces : List Piece)
+open_close : (opened : List OpenBrace) (tokens : List Token) (next : GlobReading) (to : ℕ) (pieces : List Piece)
     → closed opened tokens ≡ Some next →
     (open_behind (indices opened) (Close to ∷ pieces) ≡ open_behind (indices next.opened) pieces)
     × (length next.opened ≤ length opened)
@@ -70,8 +71,8 @@ open_close (b ∷ opened) tokens next to pieces e =
     let n : length next.opened ≡ length opened = ap length (sym same) in
     (ap (λ o. open_behind (indices o) pieces) same, omega arith)
 
--- which braces are open, and that they are few, after a piece
-open_after : (piece : Piece) (pieces : List Piece) (reading next : Reading) → after_piece reading piece ≡ Some next
+-- the braces that are open after a piece, which are few
+open_after : (piece : Piece) (pieces : List Piece) (reading next : GlobReading) → after_piece reading piece ≡ Some next
     → length reading.opened ≤ most_braces →
     (open_behind (indices reading.opened) (piece ∷ pieces) ≡ open_behind (indices next.opened) pieces)
     × (length next.opened ≤ most_braces)
@@ -97,7 +98,7 @@ open_after (Close at) pieces reading next e few =
     let less = c.1 in
     (c.0, omega arith)
 
-pub open_run : (pieces : List Piece) (reading end : Reading) → run reading pieces ≡ Some end
+pub open_run : (pieces : List Piece) (reading end : GlobReading) → run reading pieces ≡ Some end
     → length reading.opened ≤ most_braces →
     (open_behind (indices reading.opened) pieces ≡ Some (indices end.opened)) × (length end.opened ≤ most_braces)
 open_run [] reading end e few =
@@ -109,15 +110,15 @@ open_run (piece ∷ pieces) reading end e few =
     let r = open_run pieces s.0 end s.2 a.1 in
     (a.0 ∙ r.0, r.1)
 
--- the loop
+-- ---- the loop
 
-pub record IsReadSo (characters : List ℕ) (next : ℕ) (reading : Reading) : Type 0 where
+pub record IsReadSo (characters : List ℕ) (next : ℕ) (reading : GlobReading) : Type 0 where
   pub pieces : List Piece
   pub within : next ≤ length characters
   pub spelled : Spells 0 (take next characters) (drop next characters) pieces
   pub read : run start pieces ≡ Some (inner_first reading)
 
-pub read_none : (characters : List ℕ) (reading : Reading) → reading.opened ≡ [] → reading.tokens ≡ []
+pub read_none : (characters : List ℕ) (reading : GlobReading) → reading.opened ≡ [] → reading.tokens ≡ []
     → IsReadSo characters 0 reading
 read_none characters reading e f = record {
   pieces = [];
@@ -126,7 +127,7 @@ read_none characters reading e f = record {
   read = ap (λ o. Some (state (reverse o) [])) (sym e) ∙ ap (λ t. Some (state (reverse reading.opened) t)) (sym f);
 }
 
-pub read_more : (characters : List ℕ) (next size : ℕ) (old new : Reading) → IsReadSo characters next old
+pub read_more : (characters : List ℕ) (next size : ℕ) (old new : GlobReading) → IsReadSo characters next old
     → ReadsOn characters next size old new → IsReadSo characters (next + size) new
 read_more characters next size old new so on =
     let rest = drop next characters in
@@ -149,7 +150,8 @@ read_more characters next size old new so on =
       read = run_more so.pieces on.piece start (inner_first old) (inner_first new) so.read on.after;
     }
 
-pub glob_read : (characters : List ℕ) (next : ℕ) (reading : Reading) (tokens : List Token) → length characters ≤ next
+pub glob_read : (characters : List ℕ) (next : ℕ) (reading : GlobReading) (tokens : List Token)
+    → length characters ≤ next
     → IsReadSo characters next reading → (reading.opened ≡ []) × (tokens ≡ reading.tokens) → IsGlob characters tokens
 glob_read characters next reading tokens p so e =
     let w = so.within in
@@ -165,9 +167,9 @@ glob_read characters next reading tokens p so e =
       tree = tokens_of_run so.pieces tokens read;
     }
 
--- faults
+-- ---- faults
 
-pub read_to : (characters : List ℕ) (next : ℕ) (reading : Reading) → IsReadSo characters next reading
+read_to : (characters : List ℕ) (next : ℕ) (reading : GlobReading) → IsReadSo characters next reading
     → IsReadTo characters (take next characters) (drop next characters) (indices (reverse reading.opened))
 read_to characters next reading so = record {
   pieces = so.pieces;
@@ -180,7 +182,7 @@ outermost_last : (indices : List ℕ) (first at : ℕ) → outermost (indices ++
 outermost_last [] first at = refl
 outermost_last (p ∷ indices) first at = outermost_last indices first p
 
-outermost_is : (opened : List Opened) (at : ℕ) → outermost (indices (reverse opened)) at ≡ outermost_of opened at
+outermost_is : (opened : List OpenBrace) (at : ℕ) → outermost (indices (reverse opened)) at ≡ outermost_of opened at
 outermost_is [] at = refl
 outermost_is (b ∷ opened) at =
     ap (λ l. outermost (indices l) at) (reverse-append (b ∷ []) opened)
@@ -213,19 +215,20 @@ close_shape : {at a : ℕ} {prefix behind : List ℕ} → IsPiece at prefix behi
     → (prefix ≡ close_brace ∷ []) × (a ≡ at)
 close_shape close_braces = (refl, refl)
 
-too_many : (c : Bool) (n : ℕ) (some : Reading) → nat_lt n most_braces ≡ c → cond c (Some some) None ≡ None
+too_many : (c : Bool) (n : ℕ) (some : GlobReading) → nat_lt n most_braces ≡ c → cond c (Some some) None ≡ None
     → n ≤ most_braces → n ≡ most_braces
 too_many true n some l e few = cc
 too_many false n some l e few = let h : most_braces ≤ n = search rules in omega arith
 
-none_open : (opened : List Opened) (tokens : List Token) → closed opened tokens ≡ None → opened ≡ []
+none_open : (opened : List OpenBrace) (tokens : List Token) → closed opened tokens ≡ None → opened ≡ []
 none_open [] tokens e = refl
 none_open (b ∷ opened) tokens e = cc
 
 parts_of : (rest : List ℕ) (size : ℕ) (prefix : List ℕ) → take size rest ≡ prefix → rest ≡ prefix ++ drop size rest
 parts_of rest size prefix e = sym (take-append-drop size rest) ∙ ap (λ l. l ++ drop size rest) e
 
-bad_brace : (characters : List ℕ) (next : ℕ) (old : Reading) (i size : ℕ) (piece : Piece) → IsReadSo characters next old
+bad_brace : (characters : List ℕ) (next : ℕ) (old : GlobReading) (i size : ℕ) (piece : Piece)
+    → IsReadSo characters next old
     → IsPieceOf next (drop next characters) size piece →
     after_piece (inner_first old) piece ≡ None → brace_of piece ≡ Some i → FirstFault characters i
 bad_brace characters next old i size (Whole t) so p a b = cc
@@ -258,7 +261,7 @@ bad_brace characters next old i size (Close at) so p a b =
     (subst (IsReadTo characters (take next characters) (close_brace ∷ drop size (drop next characters))) none
     (subst (λ l. IsReadTo characters (take next characters) l (indices inner)) rest (read_to characters next old so))))
 
-pub next_stops : (characters : List ℕ) (next : ℕ) (old : Reading) (stop : Stop) → IsReadSo characters next old
+pub next_stops : (characters : List ℕ) (next : ℕ) (old : GlobReading) (stop : Stop) → IsReadSo characters next old
     → StopsNext characters next old stop → StopsGlob characters stop
 next_stops characters next old (Fault i) so (inl s) =
     stop_fault characters (take next characters) (indices (reverse old.opened)) s (read_to characters next old so)
@@ -267,7 +270,7 @@ next_stops characters next old (Fault i) so (inr b) = bad_brace characters next 
     b.after b.brace
 next_stops characters next old Memory so s = tt
 
-pub end_stops : (characters : List ℕ) (next : ℕ) (reading : Reading) (stop : Stop) → length characters ≤ next
+pub end_stops : (characters : List ℕ) (next : ℕ) (reading : GlobReading) (stop : Stop) → length characters ≤ next
     → IsReadSo characters next reading → StopsEnd reading.opened stop → StopsGlob characters stop
 end_stops characters next reading (Fault i) p so s =
     let w = so.within in

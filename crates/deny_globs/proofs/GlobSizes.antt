@@ -15,7 +15,7 @@ use Rattle.deny_globs.specs.Tree.{comma_outside, braces, last, more}
 use Rattle.deny_globs.proofs.SizeLemmas.{size_character, size_any_character, size_class, size_any_text, size_leading}
 use Rattle.deny_globs.proofs.SizeLemmas.{size_trailing, size_middle, size_alternatives, size_cons}
 
--- how many states a piece is given
+-- the number of states for a piece
 piece_states : Piece → ℕ
 piece_states (Whole t) = states_in t
 piece_states Middle = 4

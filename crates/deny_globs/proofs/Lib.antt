@@ -3,7 +3,6 @@ pub mod Braces
 pub mod Bytes
 pub mod ClassLemmas
 pub mod BuildLemmas
-pub mod FindLemmas
 pub mod FitsLemmas
 pub mod FormLemmas
 pub mod GlobLemmas
@@ -23,4 +22,4 @@ pub mod Spelling
 pub mod StartLemmas
 pub mod StateLemmas
 pub mod WalkLemmas
-pub mod WordLemmas
+pub mod TrieLemmas

@@ -1,4 +1,4 @@
--- The characters that tokens begin and end with, token by token.
+-- The literal characters that tokens begin and end with, token by token.
 use Rattle.std.proofs.Common.{◌≡◌, ℕ, zero, suc, ◌+◌, ◌<◌, List, [], ◌∷◌, ◌++◌, length, drop, get_or, reverse, sym, ap}
 use Rattle.std.proofs.Common.{subst, ◌∙◌, append_assoc, arith, rules}
 use Rattle.std.proofs.lemmas.List.{reverse-append}
@@ -22,23 +22,23 @@ drop_token tokens k {token} {c} p is e = subst (λ n. drop k tokens ≡ Characte
       one : suc k ≡ k + 1
       one = omega arith
 
--- a path that fits has the word in front, and fits what is left of the tokens behind it
-pub record IsBegunFor (word : List ℕ) (left : List Token) (path : List ℕ) : Type 0 where
+-- The path begins with the literal, and the tokens left fit the rest of it.
+pub record IsBegunFor (literal : List ℕ) (left : List Token) (path : List ℕ) : Type 0 where
   pub rest : List ℕ
-  pub whole : path ≡ word ++ rest
+  pub whole : path ≡ literal ++ rest
   pub fits : Fits left rest
 
-pub record IsReadTo (tokens left : List Token) (word : List ℕ) : Type 0 where
-  pub each : (path : List ℕ) → Fits tokens path → IsBegunFor word left path
+pub record IsReadTo (tokens left : List Token) (literal : List ℕ) : Type 0 where
+  pub each : (path : List ℕ) → Fits tokens path → IsBegunFor literal left path
 
-pub read_none : (tokens : List Token) {word : List ℕ} → word ≡ [] → IsReadTo tokens tokens word
-read_none tokens {word} e = record {
+pub read_none : (tokens : List Token) {literal : List ℕ} → literal ≡ [] → IsReadTo tokens tokens literal
+read_none tokens {literal} e = record {
   each = λ path f. record { rest = path; whole = ap (λ w. w ++ path) (sym e); fits = f };
 }
 
-pub read_one : {tokens left behind : List Token} {word after : List ℕ} {c : ℕ} → left ≡ Character c ∷ behind
-    → after ≡ word ++ c ∷ [] → IsReadTo tokens left word → IsReadTo tokens behind after
-read_one {tokens} {left} {behind} {word} {after} {c} e more read = record { each = one } where
+pub read_one : {tokens left behind : List Token} {literal after : List ℕ} {c : ℕ} → left ≡ Character c ∷ behind
+    → after ≡ literal ++ c ∷ [] → IsReadTo tokens left literal → IsReadTo tokens behind after
+read_one {tokens} {left} {behind} {literal} {after} {c} e more read = record { each = one } where
   one : (path : List ℕ) → Fits tokens path → IsBegunFor after behind path
   one path f =
       let old = read.each path f in
@@ -48,33 +48,28 @@ read_one {tokens} {left} {behind} {word} {after} {c} e more read = record { each
       let prefix : s.prefix ≡ c ∷ [] = t.1 ∙ ap (λ d. d ∷ []) is in
       record {
         rest = s.rest;
-        whole = old.whole ∙ ap (λ l. word ++ l) (s.whole ∙ ap (λ l. l ++ s.rest) prefix)
-            ∙ sym (append_assoc word (c ∷ []) s.rest) ∙ ap (λ w. w ++ s.rest) (sym more);
+        whole = old.whole ∙ ap (λ l. literal ++ l) (s.whole ∙ ap (λ l. l ++ s.rest) prefix)
+            ∙ sym (append_assoc literal (c ∷ []) s.rest) ∙ ap (λ w. w ++ s.rest) (sym more);
         fits = s.fits;
       }
 
-pub begins_all : {tokens left : List Token} {word : List ℕ} → IsReadTo tokens left word → BeginsAll tokens word
+pub begins_all : {tokens left : List Token} {literal : List ℕ} → IsReadTo tokens left literal → BeginsAll tokens literal
 begins_all read path f = let r = read.each path f in record { rest = r.rest; whole = r.whole }
 
--- the same from the end
+-- The path ends with the literal, and the tokens left fit the rest of it.
 
-pub record IsEndedFor (word : List ℕ) (left : List Token) (path : List ℕ) : Type 0 where
+pub record IsEndedFor (literal : List ℕ) (left : List Token) (path : List ℕ) : Type 0 where
   pub rest : List ℕ
-  pub whole : reverse path ≡ word ++ reverse rest
+  pub whole : reverse path ≡ literal ++ reverse rest
   pub fits : Fits left rest
 
-pub record IsReadBackTo (tokens left : List Token) (word : List ℕ) : Type 0 where
-  pub each : (path : List ℕ) → Fits tokens path → IsEndedFor word left path
+pub record IsReadBackTo (tokens left : List Token) (literal : List ℕ) : Type 0 where
+  pub each : (path : List ℕ) → Fits tokens path → IsEndedFor literal left path
 
-pub back_none : (tokens : List Token) {word : List ℕ} → word ≡ [] → IsReadBackTo tokens tokens word
-back_none tokens {word} e = record {
-  each = λ path f. record { rest = path; whole = ap (λ w. w ++ reverse path) (sym e); fits = f };
-}
-
-pub back_one : {tokens left before : List Token} {token : Token} {word after : List ℕ} {c : ℕ}
-    → left ≡ before ++ token ∷ [] → token ≡ Character c → after ≡ word ++ c ∷ [] → IsReadBackTo tokens left word
+pub back_one : {tokens left before : List Token} {token : Token} {literal after : List ℕ} {c : ℕ}
+    → left ≡ before ++ token ∷ [] → token ≡ Character c → after ≡ literal ++ c ∷ [] → IsReadBackTo tokens left literal
     → IsReadBackTo tokens before after
-back_one {tokens} {left} {before} {token} {word} {after} {c} e own more read = record { each = one } where
+back_one {tokens} {left} {before} {token} {literal} {after} {c} e own more read = record { each = one } where
   whole : left ≡ before ++ Character c ∷ []
   whole = e ∙ ap (λ t. before ++ t ∷ []) own
 
@@ -91,10 +86,10 @@ back_one {tokens} {left} {before} {token} {word} {after} {c} e own more read = r
       ap reverse (l.whole ∙ ap (λ x. l.prefix ++ x) last) ∙ reverse-append l.prefix (c ∷ []) in
       record {
         rest = l.prefix;
-        whole = old.whole ∙ ap (λ x. word ++ x) back ∙ sym (append_assoc word (c ∷ []) (reverse l.prefix))
+        whole = old.whole ∙ ap (λ x. literal ++ x) back ∙ sym (append_assoc literal (c ∷ []) (reverse l.prefix))
             ∙ ap (λ w. w ++ reverse l.prefix) (sym more);
         fits = l.fits_first;
       }
 
-pub ends_all : {tokens left : List Token} {word : List ℕ} → IsReadBackTo tokens left word → EndsAll tokens word
+pub ends_all : {tokens left : List Token} {literal : List ℕ} → IsReadBackTo tokens left literal → EndsAll tokens literal
 ends_all read path f = let r = read.each path f in record { rest = reverse r.rest; whole = r.whole }

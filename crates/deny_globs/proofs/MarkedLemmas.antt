@@ -1,4 +1,4 @@
--- The marks at an index, as they come and go.
+-- Marks that are set and cleared at an index.
 use Rattle.std.proofs.Common.{◌≡◌, ◌≢◌, ℕ, zero, suc, ◌+◌, ◌<◌, ◌≤◌, List, [], ◌∷◌, ◌++◌, length, take, set, replicate}
 use Rattle.std.proofs.Common.{Bool, true, false, refl, sym, ap, subst, inl, inr, ◌∙◌, arith, rules, append-nil}
 use Rattle.std.proofs.Common.{append_assoc, get_or}
@@ -6,7 +6,7 @@ use Rattle.std.specs.Prelude.{◌⊎◌, Contains}
 use Rattle.std.proofs.lemmas.Bool.{cases_eq, false≢true}
 use Rattle.std.proofs.lemmas.List.{length_push, take_more, get_or-set_same, get_or-set_other, get_or_default}
 use Rattle.std.proofs.lemmas.List.Elements.{Contains-push, Contains-push_cases, Contains-append_left}
-use Rattle.deny_lists.proofs.Members.{contains_none}
+use Rattle.deny_base_lists.proofs.Members.{contains_none}
 use Rattle.deny_globs.specs.private.Marked.{marks_in, IsMarked, Extends, Marks, MarksIf}
 
 pub contains_in : {A : Type 0} {old new : List A} {x : A} → new ≡ old → Contains new x → Contains old x
@@ -77,9 +77,6 @@ marks_new {order} {new} {n} e = record {
   only i (inl h) = inl h
   only i (inr h) = inr (sym h)
 
-pub marks_old : {order : List ℕ} {n : ℕ} → Contains order n → Marks n order order
-marks_old {order} h = record { extends = extends_same order; is_there = h; only = λ i k. inl k }
-
 pub marks_if_yes : {test : Bool} {n : ℕ} {old new : List ℕ} → test ≡ true → Marks n old new → MarksIf test n old new
 marks_if_yes {test} {n} {old} {new} is_yes m = record {
   extends = m.extends;
@@ -89,13 +86,6 @@ marks_if_yes {test} {n} {old} {new} is_yes m = record {
   only : (i : ℕ) → Contains old i ⊎ (i ≡ n) → Contains old i ⊎ ((test ≡ true) × (i ≡ n))
   only i (inl h) = inl h
   only i (inr e) = inr (is_yes, e)
-
-pub marks_if_no : {test : Bool} {n : ℕ} {order : List ℕ} → test ≡ false → MarksIf test n order order
-marks_if_no {order = order} is_no = record {
-  extends = extends_same order;
-  is_there = λ is_yes. absurd (false≢true (sym is_no ∙ is_yes));
-  only = λ i h. inl h;
-}
 
 pub marks_at_most : (marks : List Bool) → marks_in marks ≤ length marks
 marks_at_most [] = omega arith
@@ -118,7 +108,7 @@ marked_inside [] i e = cc
 marked_inside (b ∷ bs) zero e = omega arith
 marked_inside (b ∷ bs) (suc i) e = omega (arith, marked_inside bs i e)
 
--- the loop that takes marks away: a state that is still marked is listed at this index or behind it
+-- ---- the loop that clears marks: a state that is still marked is listed at this index or after it
 pub record IsListedFrom (k : ℕ) (order : List ℕ) (number : ℕ) : Type 0 where
   pub index : ℕ
   pub from : k ≤ index
@@ -128,7 +118,7 @@ pub record IsListedFrom (k : ℕ) (order : List ℕ) (number : ℕ) : Type 0 whe
 pub listed_from_start : {order : List ℕ} {number : ℕ} → Contains order number → IsListedFrom 0 order number
 listed_from_start h = record { index = h.0; from = omega arith; inside = h.1; is = h.2 }
 
-pub listed_at_end : {order : List ℕ} (k : ℕ) {number : ℕ} {P : Type 0} → length order ≤ k → IsListedFrom k order number
+listed_at_end : {order : List ℕ} (k : ℕ) {number : ℕ} {P : Type 0} → length order ≤ k → IsListedFrom k order number
     → P
 listed_at_end k p l = absurd (omega (arith, l.from, l.inside))
 

@@ -1,4 +1,4 @@
--- A text has one list of tokens at most, and none where it has a fault.
+-- A text has at most one list of tokens, and none where it has a fault.
 use Rattle.std.proofs.Common.{◌≡◌, cond, ℕ, zero, suc, ◌+◌, ◌<◌, List, [], ◌∷◌, ◌++◌, length, get_or, drop, Bool, true}
 use Rattle.std.proofs.Common.{false, IsTrue, refl, sym, ap, subst, ◌∙◌, arith, rules, append_assoc, append-nil}
 use Rattle.std.proofs.Common.{length-append, add_assoc}
@@ -7,8 +7,8 @@ use Rattle.std.specs.List.{list_all, prefix_len}
 use Rattle.std.proofs.Math.Nat.{zero-add, add-zero}
 use Rattle.std.proofs.lemmas.List.{append_cancel_right, drop_at}
 use Rattle.std.proofs.lemmas.Bool.{not-true, cond-true, cond-false}
-use Rattle.deny_lists.proofs.Numbers.{nat_le-true}
-use Rattle.deny_lists.proofs.Booleans.{and-true, and-false}
+use Rattle.deny_base_lists.proofs.Numbers.{nat_le-true}
+use Rattle.deny_base_lists.proofs.Booleans.{and-true, and-false}
 use Rattle.deny_globs.specs.declared.token.CharacterRange.{CharacterRange}
 use Rattle.deny_globs.specs.declared.token.Token.TheVariants.{Character, AnyCharacter, OneOf, AnyText, LeadingFolders}
 use Rattle.deny_globs.specs.declared.token.Token.TheVariants.{TrailingPath}
@@ -30,7 +30,7 @@ use Rattle.deny_globs.proofs.ClassLemmas.{same_number}
 use Rattle.deny_globs.proofs.PieceLemmas.{is_star}
 use Rattle.deny_globs.proofs.ClassLemmas.{both_true}
 
--- the members of a class, after so many characters of the last one, and what is behind the `]`
+-- the members of a class, after this many characters of the last one, and the characters after the `]`
 
 abbrev pub Members : Type 0
 Members = Option (List CharacterRange × List ℕ)
@@ -38,7 +38,7 @@ Members = Option (List CharacterRange × List ℕ)
 abbrev pub with_range : CharacterRange → Members → Members
 with_range r o = option_map (λ p. (r ∷ p.0, p.1)) o
 
-abbrev pub with_ranges : List CharacterRange → Members → Members
+abbrev with_ranges : List CharacterRange → Members → Members
 with_ranges rs o = option_map (λ p. (rs ++ p.0, p.1)) o
 
 abbrev pub members_at : Bool → ℕ → List ℕ → Members
@@ -106,9 +106,9 @@ members_falling (falls {ranges} members behind x y m may l lt) =
     ∙ ap (with_ranges ranges) (cond-true (may_be_member (is_empty members) x) _ _ may
     ∙ cond-true (not (y == close_bracket)) _ _ l ∙ cond-false (nat_le x y) _ _ (nat_le_false x y lt))
 
--- what the characters begin with, if with a piece, and what is behind it
+-- the piece that the characters begin with, if there is one, and the characters after it
 
-abbrev pub Begun : Type 0
+abbrev Begun : Type 0
 Begun = Option (Piece × List ℕ)
 
 abbrev pub class_of : Bool → Members → Begun
@@ -118,17 +118,17 @@ abbrev pub class_at : List ℕ → Begun
 class_at cs = cond (begins_mark cs) (class_of true (members_at true zero (drop 1 cs)))
     (class_of false (members_at true zero cs))
 
-abbrev pub stars_at : ℕ → List ℕ → Begun
+abbrev stars_at : ℕ → List ℕ → Begun
 stars_at at cs =
     cond (is_leading at (prefix_len is_star cs) (drop (prefix_len is_star cs) cs))
     (Some (Token LeadingFolders, drop (suc (prefix_len is_star cs)) cs))
     (Some (Token AnyText, drop (prefix_len is_star cs) cs))
 
-abbrev pub slash_at : List ℕ → Begun
+abbrev slash_at : List ℕ → Begun
 slash_at cs = cond (is_trailing cs) (Some (Token TrailingPath, []))
     (cond (is_middle cs) (Some (Middle, drop 3 cs)) (Some (Token (Character slash), cs)))
 
-abbrev pub escaped_at : List ℕ → Begun
+abbrev escaped_at : List ℕ → Begun
 escaped_at [] = None
 escaped_at (c ∷ cs) = Some (Token (Character c), cs)
 
@@ -227,7 +227,7 @@ begun {at} {behind = behind} (itself {c = c} p s) = plain_at at c behind p s
 some_pair : {p q : Piece × List ℕ} → Some p ≡ Some q → p ≡ q
 some_pair e = cc
 
-pub piece_some : {at : ℕ} {prefix behind : List ℕ} {piece : Piece} → IsPiece at prefix behind piece → 0 < length prefix
+piece_some : {at : ℕ} {prefix behind : List ℕ} {piece : Piece} → IsPiece at prefix behind piece → 0 < length prefix
 piece_some question = omega arith
 piece_some (leading e) = omega arith
 piece_some (stars a p b l) = p
@@ -257,18 +257,18 @@ same_piece {at} {prefix} {other} {behind} {rest} {piece} {second} p q e =
       pieces = ap (λ x. x.0) pair;
     }
 
--- one way of spelling is the beginning of the other
+-- One spelling is the beginning of the other.
 
-pub record GoesOn (at : ℕ) (behind : List ℕ) (first pieces : List Piece) : Type 0 where
+record GoesOn (at : ℕ) (behind : List ℕ) (first pieces : List Piece) : Type 0 where
   pub more : List Piece
   pub whole : pieces ≡ first ++ more
   pub spelled : Spells at behind [] more
 
-pub nothing_longer : (prefix more behind : List ℕ) → [] ≡ (prefix ++ more) ++ behind → 0 < length prefix → ⊥
+nothing_longer : (prefix more behind : List ℕ) → [] ≡ (prefix ++ more) ++ behind → 0 < length prefix → ⊥
 nothing_longer [] more behind e p = absurd (omega arith)
 nothing_longer (c ∷ prefix) more behind e p = cc
 
-pub goes_on : {at : ℕ} {before behind cs : List ℕ} {first pieces : List Piece} → Spells at before behind first
+goes_on : {at : ℕ} {before behind cs : List ℕ} {first pieces : List Piece} → Spells at before behind first
     → Spells at cs [] pieces → cs ≡ before ++ behind → GoesOn (at + length before) behind first pieces
 goes_on {at} {behind = behind} {cs} {pieces = pieces} nothing s e = record {
   more = pieces;
@@ -295,14 +295,14 @@ none_longer nothing e = refl
 none_longer (next prefix more is rest) e = absurd
     (nothing_longer prefix more [] (sym e ∙ sym (append-nil (prefix ++ more))) (piece_some is))
 
-pub record Begins (at : ℕ) (cs : List ℕ) (pieces : List Piece) : Type 0 where
+record Begins (at : ℕ) (cs : List ℕ) (pieces : List Piece) : Type 0 where
   pub piece : Piece
   pub more : List Piece
   pub behind : List ℕ
   pub whole : pieces ≡ piece ∷ more
   pub is_at : piece_at at cs ≡ Some (piece, behind)
 
-pub begins_piece : {at : ℕ} {cs : List ℕ} {pieces : List Piece} → Spells at cs [] pieces → 0 < length cs
+begins_piece : {at : ℕ} {cs : List ℕ} {pieces : List Piece} → Spells at cs [] pieces → 0 < length cs
     → Begins at cs pieces
 begins_piece nothing p = absurd (omega arith)
 begins_piece {at} (next {piece = q} {pieces = qs} prefix more is rest) p = record {
@@ -314,7 +314,7 @@ begins_piece {at} (next {piece = q} {pieces = qs} prefix more is rest) p = recor
       ∙ ap (λ l. Some (q, l)) (append-nil more);
 }
 
--- one list of tokens
+-- ---- one list of tokens
 
 pieces_once : {cs : List ℕ} {pieces others : List Piece} → Spells 0 cs [] pieces → Spells 0 cs [] others
     → others ≡ pieces
@@ -330,7 +330,7 @@ pub glob_once : (characters : List ℕ) (tokens other : List Token') → IsGlob 
 glob_once characters tokens other g h =
     same_tokens (sym (run_of_tokens h.tree) ∙ ap (run start) (pieces_once g.spelled h.spelled) ∙ run_of_tokens g.tree)
 
--- no fault in a glob
+-- ---- a glob has no fault
 
 pub open_append : (first more : List Piece) (opened : List ℕ)
     → open_behind opened (first ++ more) ≡ option_and_then (λ o. open_behind o more) (open_behind opened first)
@@ -349,13 +349,13 @@ open_append (Open at ∷ first) more opened =
 open_append (Close at ∷ first) more [] = refl
 open_append (Close at ∷ first) more (o ∷ opened) = open_append first more opened
 
-pub record IsLeft (characters before behind opened : List ℕ) : Type 0 where
+record IsLeft (characters before behind opened : List ℕ) : Type 0 where
   pub more : List Piece
   pub spelled : Spells (length before) behind [] more
   pub closes : open_behind opened more ≡ Some []
 
--- a glob goes on behind what is read of it, and closes its braces
-pub glob_left : (characters before behind opened : List ℕ) (tokens : List Token')
+-- a glob continues after what is read of it, and closes its braces
+glob_left : (characters before behind opened : List ℕ) (tokens : List Token')
     → IsReadTo characters before behind opened → IsGlob characters tokens → IsLeft characters before behind opened
 glob_left characters before behind opened tokens r g =
     let o = goes_on r.spelled g.spelled r.whole in
@@ -374,7 +374,7 @@ begun_by piece behind = Some (piece, behind)
 pub first_of_pair : {p q : Piece} {a b : List ℕ} → begun_by p a ≡ begun_by q b → p ≡ q
 first_of_pair e = ap (λ x. x.0) (some_pair e)
 
-pub not_open : (opened : List ℕ) (at : ℕ) (more : List Piece) → length opened ≡ most_braces
+not_open : (opened : List ℕ) (at : ℕ) (more : List Piece) → length opened ≡ most_braces
     → open_behind opened (Open at ∷ more) ≡ None
 not_open opened at more e = ap (λ n. cond (nat_lt n most_braces) (open_behind (at ∷ opened) more) None) e
 

@@ -1,4 +1,4 @@
--- Where a piece stands in what is left of a pattern.
+-- The piece that the rest of a pattern begins with.
 use Rattle.std.proofs.Common.{◌≡◌, cond, ℕ, ◌+◌, ◌<◌, ◌≤◌, List, [], ◌∷◌, ◌++◌, length, get_or, take, drop, Bool, true}
 use Rattle.std.proofs.Common.{false, IsTrue, refl, sym, ap, subst, inl, inr, ◌∙◌, arith, append_assoc, length-append}
 use Rattle.std.specs.Prelude.{◌==◌, ◌&&◌}
@@ -21,7 +21,7 @@ use Rattle.deny_globs.specs.private.Steps.{is_unclosed}
 use Rattle.deny_globs.specs.private.Steps.{StopsPiece, piece_of_class}
 use Rattle.deny_globs.proofs.ClassLemmas.{same_number, both_true, and_true}
 
-pub piece_of : (at : ℕ) (rest : List ℕ) (size : ℕ) (piece : Piece) (prefix behind : List ℕ) → rest ≡ prefix ++ behind
+piece_of : (at : ℕ) (rest : List ℕ) (size : ℕ) (piece : Piece) (prefix behind : List ℕ) → rest ≡ prefix ++ behind
     → size ≡ length prefix → 0 < size → IsPiece at prefix behind piece → IsPieceOf at rest size piece
 piece_of at rest size piece prefix behind w s p is =
     let t : take size rest ≡ prefix = ap (take size) w ∙ take_at prefix behind size (sym s) in
@@ -34,7 +34,7 @@ piece_of at rest size piece prefix behind w s p is =
           (subst (λ b. IsPiece at prefix b piece) (sym d) is);
     }
 
--- what begins with a character is that and the rest
+-- characters that begin with a character are that and the rest
 begin_with : (c : ℕ) (cs : List ℕ) → IsTrue (begins c cs) → cs ≡ c ∷ drop 1 cs
 begin_with c [] h = cc
 begin_with c (d ∷ cs) h = ap (λ x. x ∷ cs) (same_number d c h)
@@ -73,7 +73,7 @@ class_stops at unclosed negated rest mark body from (Fault i) w m f (inr s) =
     (subst (λ r. IsStop at unclosed r unclosed) (sym w) (is_unclosed mark body m s.0))
 class_stops at unclosed negated rest mark body from Memory w m f s = tt
 
--- a class with a mark, and one with none
+-- A class with a mark of negation.
 
 pub record IsNegated (rest : List ℕ) : Type 0 where
   pub mark : ℕ
@@ -93,7 +93,7 @@ plain_class rest b = begin_with open_bracket rest b
 pub plain_mark : (rest : List ℕ) → false ≡ begins_mark (drop 1 rest) → IsMark [] (drop 1 rest) false
 plain_mark rest h = no_mark (sym h)
 
--- a run of stars
+-- ---- a run of stars
 
 abbrev pub is_star : ℕ → Bool
 is_star c = c == star
@@ -171,7 +171,7 @@ leading_piece at rest count e l =
     piece_of at rest 3 (Token LeadingFolders) (star ∷ star ∷ slash ∷ []) (drop 1 r.behind) whole refl (omega arith)
     (leading start)
 
--- a slash
+-- ---- a slash
 
 trailing_shape : (cs : List ℕ) → is_trailing cs ≡ true → cs ≡ star ∷ star ∷ []
 trailing_shape [] h = cc
@@ -213,7 +213,7 @@ slash_piece at rest b t m =
     piece_of at rest 1 (Token (Character slash)) (slash ∷ []) (drop 1 rest) (begin_with slash rest b) refl (omega arith)
     (lone_slash (sym t) (sym m))
 
--- an escape
+-- ---- an escape
 
 pub escaped_piece : (at : ℕ) (rest : List ℕ) (c : ℕ) → IsTrue (begins backslash rest) → 2 ≤ length rest
     → c ≡ get_or rest 1 c → IsPieceOf at rest 2 (Token (Character c))
@@ -231,7 +231,7 @@ escapes_none at unclosed (a ∷ []) b l = let x : backslash ≡ a = sym (same_nu
     subst (λ c. IsStop at unclosed (c ∷ []) at) x escapes_nothing
 escapes_none at unclosed (a ∷ d ∷ rest) b l = absurd (omega arith)
 
--- one character
+-- ---- one character
 
 pub one_piece : (at c d : ℕ) (rest : List ℕ) (piece : Piece) → 0 < length rest → d ≡ get_or rest 0 d → d ≡ c
     → ((behind : List ℕ) → IsPiece at (c ∷ []) behind piece) → IsPieceOf at rest 1 piece

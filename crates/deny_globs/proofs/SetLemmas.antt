@@ -1,36 +1,36 @@
--- A set with a glob more, and what it finds.
+-- A set with one more glob, and the globs that it finds.
 use Rattle.std.proofs.Common.{◌≡◌, ◌≢◌, ℕ, zero, suc, ◌+◌, ◌*◌, ◌^◌, ◌<◌, ◌≤◌, List, [], ◌∷◌, ◌++◌, length, map, Bool}
-use Rattle.std.proofs.Common.{true, false, get_or, refl, sym, ap, subst, inl, inr, ◌∙◌, arith, append-nil}
+use Rattle.std.proofs.Common.{true, false, refl, sym, ap, subst, inl, inr, ◌∙◌, arith, append-nil}
 use Rattle.std.specs.Prelude.{◌⊎◌, ◌↔◌, Option, Some, None, Contains, IsSomeAnd, slice_get, if◌then◌else◌}
 use Rattle.std.specs.Option.{option_map}
 use Rattle.std.specs.Cmp.Lexicographic.{nat_list_cmp_total}
 use Rattle.std.proofs.lemmas.Bool.{cases_eq, false≢true}
 use Rattle.std.proofs.lemmas.Cmp.{nat_cmp_total}
 use Rattle.std.proofs.lemmas.Nat.{mul-le}
-use Rattle.std.proofs.lemmas.Option.{slice_get-map, slice_get_read, slice_get_within}
+use Rattle.std.proofs.lemmas.Option.{slice_get-map, slice_get_read}
 use Rattle.std.proofs.lemmas.List.{length-map}
 use Rattle.std.proofs.lemmas.List.Sums.{sum_by-append, sum_by-cons}
 use Rattle.std.specs.Ordering.{nat_cmp}
 use Rattle.std.proofs.lemmas.Map.Keys.{IsStrictlyIncreasing-from_sorted}
-use Rattle.deny_lists.proofs.Sorted.{length-ascending}
-use Rattle.deny_lists.specs.Ascending.{Lists}
-use Rattle.deny_lists.proofs.Indices.{slice_get-push_cases, slice_get-push_left, slice_get-push_last}
-use Rattle.deny_lists.proofs.Options.{none_is_no_some, some_inj}
-use Rattle.deny_lists.proofs.Members.{contains_none}
-use Rattle.deny_globs.specs.declared.extensions.Extension.{Extension}
+use Rattle.deny_base_lists.proofs.Sorted.{length-ascending}
+use Rattle.deny_base_lists.specs.Ascending.{Lists}
+use Rattle.deny_base_lists.proofs.Indices.{slice_get-push_cases, slice_get-push_left, slice_get-push_last}
+use Rattle.deny_base_lists.proofs.Options.{none_is_no_some, some_inj}
+use Rattle.deny_base_lists.proofs.Members.{contains_none}
+use Rattle.deny_globs.specs.declared.extensions.GlobExtension.{GlobExtension}
 use Rattle.deny_globs.specs.declared.starts.Starts.{Starts}
 use Rattle.deny_globs.specs.declared.token.Token.{Token}
 use Rattle.deny_globs.specs.declared.token.Token.TheVariants.{Alternatives}
-use Rattle.deny_globs.specs.declared.state.State.{State}
-use Rattle.deny_globs.specs.declared.state.State.TheVariants.{End}
-use Rattle.deny_globs.specs.private.Compiled.{Grows, IsPushed, IsBuilt, StandsFor, AddsStates}
+use Rattle.deny_globs.specs.declared.state.GlobState.{GlobState}
+use Rattle.deny_globs.specs.declared.state.GlobState.TheVariants.{End}
+use Rattle.deny_globs.specs.private.Compiled.{Grows, IsPushed, IsBuilt, Represents, AddsStates}
 use Rattle.deny_globs.specs.Fits.{Fits, nothing}
-use Rattle.deny_globs.specs.Index.{name_of, IsNamedAt, IsIndexed, AreCompiled}
+use Rattle.deny_globs.specs.Index.{name_of, IsIndexed, AreCompiled}
 use Rattle.deny_globs.specs.private.Index.{IsGap, IsExtended, FitsSimply}
 use Rattle.deny_globs.specs.private.Index.{NotesNamed, BoundsNamed, BoundsSimple, Indexes}
 use Rattle.deny_globs.specs.Patterns.{Pattern, characters_of, tokens_of}
 use Rattle.deny_globs.specs.Sets.{FitsAt, is_simple, extension_of, AsksFor, FitsOther, HasExtensions, weight, weight_of}
-use Rattle.deny_globs.specs.Sets.{KeepsBound, AreFirstFitting}
+use Rattle.deny_globs.specs.Sets.{KeepsBound}
 use Rattle.deny_globs.specs.private.Sets.{AreFitting}
 use Rattle.deny_globs.specs.Starts.{Starting, SomeStarts}
 use Rattle.deny_globs.specs.private.Starts.{AddsStart, KeepsStarts}
@@ -58,7 +58,7 @@ globs_more globs glob own old i g e = elim (slice_get-push_cases globs glob i e)
   | inr same ↦ subst (λ p. IsGlob (characters_of p) (tokens_of p)) (sym same.1) own
 ]
 
--- weights
+-- ---- weights
 
 weight_more : (globs : List Pattern) (glob : Pattern) → weight_of (globs ++ glob ∷ []) ≡ weight_of globs + weight glob
 weight_more globs glob = omega (arith, sum_by-append weight globs (glob ∷ []), sum_by-cons weight glob [])
@@ -67,7 +67,7 @@ weight_other : (glob : Pattern) → is_simple (characters_of glob) ≡ false
     → weight glob ≡ 2 * length (characters_of glob) + 2
 weight_other glob isnt = ap (λ b. if b then 0 else 2 * length (characters_of glob) + 2) isnt
 
--- what fits and is not simple, as a glob comes
+-- ---- globs that fit and are not simple
 
 other_more : (globs : List Pattern) (glob : Pattern) (i : ℕ) (path : List ℕ) → FitsOther globs i path
     → FitsOther (globs ++ glob ∷ []) i path
@@ -86,7 +86,7 @@ other_cases globs glob i path h = elim (slice_get-push_cases globs glob i h.at) 
   )
 ]
 
-pub compiled_simple : (globs : List Pattern) (glob : Pattern) (states : List State) (starts : Starts)
+compiled_simple : (globs : List Pattern) (glob : Pattern) (states : List GlobState) (starts : Starts)
     → IsGlob (characters_of glob) (tokens_of glob) → is_simple (characters_of glob) ≡ true →
     AreCompiled globs states starts → AreCompiled (globs ++ glob ∷ []) states starts
 compiled_simple globs glob states starts own is x = record {
@@ -107,24 +107,24 @@ compiled_simple globs glob states starts own is x = record {
   old i path (inl h) = h
   old i path (inr h) = absurd (false≢true (sym h.1 ∙ is))
 
--- the end of a glob
+-- ---- the end of a glob
 
 end_inj : {a b : ℕ} → End a ≡ End b → a ≡ b
 end_inj e = some_inj (ap end_of e)
 
-end_turn : {states : List State} {number glob own : ℕ} {ds : List ℕ} → Turn states glob number (End own) ds
+end_turn : {states : List GlobState} {number glob own : ℕ} {ds : List ℕ} → Turn states glob number (End own) ds
     → (glob ≡ own) × (ds ≡ [])
 end_turn (ended e) = (end_inj (sym e), refl)
 end_turn (took h l) = absurd h
 end_turn (moved h l) = absurd h
 
-end_is : {states : List State} {number glob own : ℕ} {cs : List ℕ} → slice_get states number ≡ Some (End own)
+end_is : {states : List GlobState} {number glob own : ℕ} {cs : List ℕ} → slice_get states number ≡ Some (End own)
     → Leads states glob number cs → (glob ≡ own) × (cs ≡ [])
 end_is at l = end_turn (turn at l)
 
-stands_end : {states : List State} {number own : ℕ} → slice_get states number ≡ Some (End own)
-    → StandsFor states own number []
-stands_end {states} {number} {own} at cs = (
+holds_end : {states : List GlobState} {number own : ℕ} → slice_get states number ≡ Some (End own)
+    → Represents states own number []
+holds_end {states} {number} {own} at cs = (
   λ l. subst (λ ds. Fits [] ds) (sym (end_is at l).1) nothing,
   λ f. subst (λ ds. Leads states own number ds) (sym (nothing_fits f)) (ends at),
 )
@@ -132,11 +132,11 @@ stands_end {states} {number} {own} at cs = (
 no_fit : {cs : List ℕ} {more : List Token} → Fits (Alternatives [] ∷ more) cs → ⊥
 no_fit {cs} {more} f = none_fits more cs (one_from_fits more [] cs f)
 
-stands_none : {states : List State} {number own glob : ℕ} → slice_get states number ≡ Some (End own) → glob ≢ own
-    → StandsFor states glob number (Alternatives [] ∷ [])
-stands_none at other cs = (λ l. absurd (other (end_is at l).0), λ f. absurd (no_fit f))
+holds_none : {states : List GlobState} {number own glob : ℕ} → slice_get states number ≡ Some (End own) → glob ≢ own
+    → Represents states glob number (Alternatives [] ∷ [])
+holds_none at other cs = (λ l. absurd (other (end_is at l).0), λ f. absurd (no_fit f))
 
-pub compiled_other : (globs : List Pattern) (glob : Pattern) (states states' : List State) (starts starts' : Starts)
+compiled_other : (globs : List Pattern) (glob : Pattern) (states states' : List GlobState) (starts starts' : Starts)
     → is_simple (characters_of glob) ≡ false → AreCompiled globs states starts →
     AddsStates glob (length globs) states starts states' starts' → AreCompiled (globs ++ glob ∷ []) states' starts'
 compiled_other globs glob states states' starts starts' isnt x a = record {
@@ -167,14 +167,14 @@ compiled_other globs glob states states' starts starts' isnt x a = record {
 
   own : (path : List ℕ) → Leads states' (length globs) a.start path ↔ Fits (tokens_of glob) path
   own path =
-      let stands = a.built.stands (length globs) [] (stands_end (pushed_at a.pushed)) path in (
-        λ l. subst (λ ts. Fits ts path) (append-nil (tokens_of glob)) (stands.0 l),
-        λ f. stands.1 (subst (λ ts. Fits ts path) (sym (append-nil (tokens_of glob))) f),
+      let holds = a.built.holds (length globs) [] (holds_end (pushed_at a.pushed)) path in (
+        λ l. subst (λ ts. Fits ts path) (append-nil (tokens_of glob)) (holds.0 l),
+        λ f. holds.1 (subst (λ ts. Fits ts path) (sym (append-nil (tokens_of glob))) f),
       )
 
   none : (i : ℕ) (path : List ℕ) → i ≢ length globs → Leads states' i a.start path → ⊥
   none i path other l =
-      let f = (a.built.stands i (Alternatives [] ∷ []) (stands_none (pushed_at a.pushed) other) path).0 l in
+      let f = (a.built.holds i (Alternatives [] ∷ []) (holds_none (pushed_at a.pushed) other) path).0 l in
       let s = split_list (tokens_of glob) (Alternatives [] ∷ []) path f in
       no_fit s.fits
 
@@ -213,7 +213,7 @@ compiled_other globs glob states states' starts starts' isnt x a = record {
         ((own path).1 h.2);
   }
 
-pub compiled_none : {states : List State} {starts : Starts} → states ≡ [] → starts.beginnings.items ≡ []
+pub compiled_none : {states : List GlobState} {starts : Starts} → states ≡ [] → starts.beginnings.items ≡ []
     → starts.endings.items ≡ [] → AreCompiled [] states starts
 compiled_none {states} {starts} e f g = subst (λ s. AreCompiled [] s starts) (sym e) (record {
   globs_are = λ i glob at. none_is_no_some at;
@@ -224,8 +224,8 @@ compiled_none {states} {starts} e f g = subst (λ s. AreCompiled [] s starts) (s
   size = omega arith;
 })
 
--- where no state has come at which a glob starts, nothing is another
-pub compiled_kept : {globs : List Pattern} {states : List State} {old new : Starts} → AreCompiled globs states old
+-- where no start is added, no start has changed
+compiled_kept : {globs : List Pattern} {states : List GlobState} {old new : Starts} → AreCompiled globs states old
     → KeepsStarts old new → AreCompiled globs states new
 compiled_kept x keeps = record {
   globs_are = x.globs_are;
@@ -241,7 +241,8 @@ compiled_kept x keeps = record {
   size = x.size;
 }
 
-pub index_kept : {globs globs' : List Pattern} {extensions extensions' : List Extension} {states states' : List State}
+pub index_kept : {globs globs' : List Pattern} {extensions extensions' : List GlobExtension}
+    {states states' : List GlobState}
     {old new : Starts} → IsIndexed globs extensions × AreCompiled globs states old → globs' ≡ globs →
     extensions' ≡ extensions → states' ≡ states → KeepsStarts old new
     → IsIndexed globs' extensions' × AreCompiled globs' states' new
@@ -252,10 +253,10 @@ index_kept {globs} {globs'} {extensions} {extensions'} {states} {states'} {old}
           (subst (λ ss. AreCompiled globs ss new) (sym states_are) (compiled_kept x.1 keeps)),
     )
 
--- the whole index, with a glob more
+-- ---- the whole index, with one more glob
 
-pub indexes_simple : {glob : Pattern} {number : ℕ} {name : List ℕ} {extensions extensions' : List Extension}
-    {states : List State} {starts : Starts} → IsGlob (characters_of glob) (tokens_of glob) →
+pub indexes_simple : {glob : Pattern} {number : ℕ} {name : List ℕ} {extensions extensions' : List GlobExtension}
+    {states : List GlobState} {starts : Starts} → IsGlob (characters_of glob) (tokens_of glob) →
     is_simple (characters_of glob) ≡ true → extension_of (characters_of glob) ≡ name
     → IsExtended extensions name number extensions'
     → Indexes glob number extensions states starts extensions' states starts
@@ -268,7 +269,7 @@ indexes_simple {glob} {number} {name} {extensions} {extensions'} {states} {start
   );
 }
 
-pub adds_states : {glob : Pattern} {number end start : ℕ} {old mid new : List State} {starts starts' : Starts}
+pub adds_states : {glob : Pattern} {number end start : ℕ} {old mid new : List GlobState} {starts starts' : Starts}
     {tokens spelled : List Token} → IsGlob (characters_of glob) (tokens_of glob) → IsPushed (End number) old mid end →
     spelled ≡ tokens_of glob → IsBuilt spelled end mid new start → tokens ≡ spelled
     → AddsStart tokens start starts starts'
@@ -283,7 +284,7 @@ adds_states {glob} {number} {end} {start} {old} {mid} {new} {starts} {starts'} o
   started = subst (λ ts. AddsStart ts start starts starts') (same ∙ is) a;
 }
 
-pub indexes_other : {glob : Pattern} {number : ℕ} {extensions : List Extension} {states states' : List State}
+pub indexes_other : {glob : Pattern} {number : ℕ} {extensions : List GlobExtension} {states states' : List GlobState}
     {starts starts' : Starts} → is_simple (characters_of glob) ≡ false →
     AddsStates glob number states starts states' starts'
     → Indexes glob number extensions states starts extensions states' starts'
@@ -295,7 +296,7 @@ indexes_other {glob} {number} {extensions} {states} {states'} {starts} {starts'}
   );
 }
 
--- the globs that fit
+-- ---- the globs that fit
 
 record GlobAt (globs : List Pattern) (i : ℕ) (path : List ℕ) : Type 0 where
   glob : Pattern
@@ -312,7 +313,7 @@ fits_at : (globs : List Pattern) (i : ℕ) (path : List ℕ) (glob : Pattern) �
     → Fits (tokens_of glob) path → FitsAt globs i path
 fits_at globs i path glob e h = subst (λ o. IsSomeAnd o (λ g. Fits (tokens_of g) path)) (sym e) h
 
-fits_by : (globs : List Pattern) (states : List State) (starts : Starts) → AreCompiled globs states starts
+fits_by : (globs : List Pattern) (states : List GlobState) (starts : Starts) → AreCompiled globs states starts
     → (i : ℕ) (path : List ℕ) → FitsAt globs i path → FitsSimply globs path i ⊎ SomeStarts states starts i path
 fits_by globs states starts x i path f = go (glob_at globs i path f) where
   by_test : (g : GlobAt globs i path) (test : Bool) → is_simple (characters_of g.glob) ≡ test
@@ -328,19 +329,19 @@ fits_by globs states starts x i path f = go (glob_at globs i path f) where
   go : GlobAt globs i path → FitsSimply globs path i ⊎ SomeStarts states starts i path
   go g = by_test g (is_simple (characters_of g.glob)) refl
 
-pub simply_fits : (globs : List Pattern) (states : List State) (starts : Starts) → AreCompiled globs states starts
+simply_fits : (globs : List Pattern) (states : List GlobState) (starts : Starts) → AreCompiled globs states starts
     → (i : ℕ) (path : List ℕ) → FitsSimply globs path i → FitsAt globs i path
 simply_fits globs states starts x i path h =
     let asks = h.2 in
     fits_at globs i path asks.glob asks.at
     ((simple_fits (x.globs_are i asks.glob asks.at) asks.simple).1 (h.1 ∙ ap (λ n. Some n) (sym asks.named)))
 
-by_fits : (globs : List Pattern) (states : List State) (starts : Starts) → AreCompiled globs states starts
+by_fits : (globs : List Pattern) (states : List GlobState) (starts : Starts) → AreCompiled globs states starts
     → (i : ℕ) (path : List ℕ) → FitsSimply globs path i ⊎ SomeStarts states starts i path → FitsAt globs i path
 by_fits globs states starts x i path (inl h) = simply_fits globs states starts x i path h
 by_fits globs states starts x i path (inr s) = let o = (x.leads i path).0 s in fits_at globs i path o.glob o.at o.fits
 
-pub noted_fit : {globs : List Pattern} {states : List State} {starts : Starts} {path old mid new : List ℕ}
+pub noted_fit : {globs : List Pattern} {states : List GlobState} {starts : Starts} {path old mid new : List ℕ}
     → AreCompiled globs states starts → Notes (FitsSimply globs path) old mid
     → Notes (λ i. SomeStarts states starts i path) mid new → Notes (λ i. FitsAt globs i path) old new
 noted_fit {globs} {states} {starts} {path} x first second = notes_on
@@ -364,17 +365,9 @@ fitting_of {globs} {path} {none} {found} {sorted} {slice} {indices} {old} empty 
       to i (inl c) = contains_none (contains_in e c)
       to i (inr f) = f
 
-pub first_of_none : (globs : List Pattern) (path : List ℕ) {indices : List ℕ} → indices ≡ []
-    → AreFirstFitting globs path indices
-first_of_none globs path {indices} e = subst (AreFirstFitting globs path) (sym e) (record {
-  ascending = λ k p. absurd (omega arith);
-  fit = λ i c. contains_none c;
-  first = λ i j c below f. contains_none c;
-})
+-- ---- steps
 
--- steps
-
-pub names_fewer : (globs : List Pattern) (extensions : List Extension) (names : List (List ℕ))
+names_fewer : (globs : List Pattern) (extensions : List GlobExtension) (names : List (List ℕ))
     → IsIndexed globs extensions → HasExtensions globs names → length extensions ≤ length names
 names_fewer globs extensions names x has = omega (
   arith,
@@ -382,8 +375,8 @@ names_fewer globs extensions names x has = omega (
       (map name_of extensions) names x.ascend there,
   length-map extensions name_of,
 ) where
-  mapped : (o : Option Extension) (z : List ℕ) → option_map name_of o ≡ Some z
-      → (e : Extension) × (o ≡ Some e) × (e.name ≡ z)
+  mapped : (o : Option GlobExtension) (z : List ℕ) → option_map name_of o ≡ Some z
+      → (e : GlobExtension) × (o ≡ Some e) × (e.name ≡ z)
   mapped None z e = cc
   mapped (Some e) z same = (e, refl, some_inj same)
 
@@ -394,7 +387,7 @@ names_fewer globs extensions names x has = omega (
       let some = x.some h.0 m.0 m.1 in
       subst (λ n. Contains names n) m.2 (has some.0 m.0.name ((x.numbers h.0 m.0 m.1 some.0).0 some.1))
 
-pub named_bound : (extensions : List Extension) (name : List ℕ) (index start steps : ℕ) (extension : Extension)
+pub named_bound : (extensions : List GlobExtension) (name : List ℕ) (index start steps : ℕ) (extension : GlobExtension)
     → slice_get extensions index ≡ Some extension → extension.name ≡ name →
     ((d : ℕ) → length extensions < 2 ^ d → steps ≤ start + d)
     → BoundsNamed extensions name start (steps + length extension.globs)
@@ -406,7 +399,7 @@ named_bound extensions name index start steps extension at named bound globs hit
 walk_bound : (indices states weights : ℕ) → states ≤ weights → indices * states ≤ indices * weights
 walk_bound indices states weights p = mul-le indices states indices weights (omega arith) p
 
-pub simple_bound : (globs : List Pattern) (extensions : List Extension) (states : List State) (starts : Starts)
+pub simple_bound : (globs : List Pattern) (extensions : List GlobExtension) (states : List GlobState) (starts : Starts)
     (path : List ℕ) (first second : ℕ) → IsIndexed globs extensions → AreCompiled globs states starts →
     BoundsSimple extensions path first second → KeepsBound globs path first second
 simple_bound globs extensions states starts path first second x y simple names hits d has covers less =
@@ -415,7 +408,7 @@ simple_bound globs extensions states starts path first second x y simple names h
     (omega (arith, fewer, less)) in
     omega (arith, one)
 
-pub total_bound : (globs : List Pattern) (extensions : List Extension) (states : List State) (starts : Starts)
+pub total_bound : (globs : List Pattern) (extensions : List GlobExtension) (states : List GlobState) (starts : Starts)
     (path : List ℕ) (first second third : ℕ) → IsIndexed globs extensions → AreCompiled globs states starts →
     BoundsSimple extensions path first second → third ≤ second + (length path + 1) * length states
     → KeepsBound globs path first third
@@ -428,15 +421,7 @@ total_bound globs extensions states starts path first second third x y simple wa
 
 -- the extension that was found
 
-pub named_at : {extensions : List Extension} {name : List ℕ} {index : ℕ} {extension : Extension}
-    → IsNamedAt extensions name index → extension ≡ get_or extensions index extension →
-    (slice_get extensions index ≡ Some extension) × (extension.name ≡ name)
-named_at {extensions} {name} {index} {extension} found is =
-    let at = slice_get_read extensions (length extensions) index extension refl
-    (slice_get_within extensions index found.extension found.at) is in
-    (at, ap name_of (some_inj (sym at ∙ found.at)) ∙ found.named)
-
-pub notes_named : {extensions : List Extension} {name : List ℕ} (index : ℕ) (extension : Extension)
+pub notes_named : {extensions : List GlobExtension} {name : List ℕ} (index : ℕ) (extension : GlobExtension)
     {old new : List ℕ} → slice_get extensions index ≡ Some extension → extension.name ≡ name →
     Notes (Contains extension.globs) old new → NotesNamed extensions name old new
 notes_named index extension at named notes globs x =
@@ -445,7 +430,7 @@ notes_named index extension at named notes globs x =
       λ h. (x.numbers index extension at i).1 (subst (λ n. AsksFor globs i n) (sym named) h),
     )) notes
 
-pub notes_gap : {extensions : List Extension} {name : List ℕ} {index : ℕ} {old : List ℕ}
+pub notes_gap : {extensions : List GlobExtension} {name : List ℕ} {index : ℕ} {old : List ℕ}
     → IsGap extensions name index → NotesNamed extensions name old old
 notes_gap {extensions} {name} {index} gap globs x = notes_none refl
     (λ i h. no_asks globs extensions name index x gap i h)

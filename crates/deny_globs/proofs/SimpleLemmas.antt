@@ -1,11 +1,11 @@
--- A simple glob fits exactly the paths with its extension behind their last `.`.
+-- A simple glob fits exactly the paths with its extension after their last `.`.
 use Rattle.std.proofs.Common.{◌≡◌, ◌≢◌, ℕ, zero, suc, ◌+◌, ◌<◌, List, [], ◌∷◌, ◌++◌, length, take, drop, get_or, Bool}
 use Rattle.std.proofs.Common.{true, false, IsTrue, refl, sym, ap, subst, ◌∙◌, arith, rules}
 use Rattle.std.specs.Prelude.{◌↔◌, Option, Some, None, ◌==◌, ◌&&◌, not, nat_eq, if◌then◌else◌}
 use Rattle.std.specs.List.{list_all}
 use Rattle.std.specs.Char.{is_ascii_alphanumeric}
 use Rattle.std.proofs.lemmas.Bool.{false≢true}
-use Rattle.deny_lists.proofs.Options.{some_inj}
+use Rattle.deny_base_lists.proofs.Options.{some_inj}
 use Rattle.deny_globs.specs.declared.token.Token.{Token}
 use Rattle.deny_globs.specs.declared.token.Token.TheVariants.{Character, AnyText}
 use Rattle.deny_globs.specs.declared.piece.Piece.{Piece}
@@ -49,7 +49,7 @@ simple_parts (a ∷ b ∷ c ∷ cs) e =
       letters = two.1;
     }
 
--- a letter or a digit is none of the characters that mean more
+-- a letter or a digit is none of the special characters
 other_char : (c d : ℕ) → is_ascii_alphanumeric d ≡ false → IsTrue (is_ascii_alphanumeric c) → nat_eq c d ≡ false
 other_char c d no_letter h = other_is c d
     (λ same. false≢true (sym no_letter ∙ subst (λ k. is_ascii_alphanumeric k ≡ true) same h))
@@ -138,7 +138,7 @@ letters_no_dot (c ∷ cs) h =
     ap (λ o. or_else o (if c == dot then Some cs else None)) (letters_no_dot cs b.1)
     ∙ ap (λ t. if t then Some cs else None) (other_char c dot refl b.0)
 
-pub last_of_prefix : (prefix name : List ℕ) → behind_last_dot name ≡ None
+last_of_prefix : (prefix name : List ℕ) → behind_last_dot name ≡ None
     → behind_last_dot (prefix ++ dot ∷ name) ≡ Some name
 last_of_prefix [] name none = ap (λ o. or_else o (Some name)) none
 last_of_prefix (c ∷ prefix) name none = ap (λ o. or_else o (if c == dot then Some (prefix ++ dot ∷ name) else None))
@@ -185,7 +185,7 @@ simple_fits {characters} {path} {tokens} glob simple = (
   named : extension_of characters ≡ parts.extension
   named = ap (drop 2) parts.whole
 
--- the search for the last `.`, from the path's end
+-- ---- the search for the last `.`, from the end of the path
 
 drop_next : (path : List ℕ) (k : ℕ) (d : ℕ) → k < length path → drop k path ≡ get_or path k d ∷ drop (suc k) path
 drop_next [] k d p = absurd (omega arith)

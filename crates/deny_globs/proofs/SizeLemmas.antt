@@ -1,9 +1,9 @@
--- How many states each token takes.
+-- The number of states of each token.
 use Rattle.std.proofs.Common.{◌≡◌, ℕ, ◌+◌, List, [], ◌∷◌, map, refl, sym, ap, ◌∙◌, arith}
 use Rattle.std.specs.Prelude.{sum}
 use Rattle.std.specs.List.{sum_by}
 use Rattle.std.proofs.lemmas.List.Sums.{sum-map, sum_by-cons}
-use Rattle.deny_globs.specs.declared.token.Class.{Class}
+use Rattle.deny_globs.specs.declared.token.CharacterClass.{CharacterClass}
 use Rattle.deny_globs.specs.declared.token.Token.{Token, fold-roll-Token}
 use Rattle.deny_globs.specs.declared.token.Token.TheVariants.{Character, AnyCharacter, OneOf, AnyText, LeadingFolders}
 use Rattle.deny_globs.specs.declared.token.Token.TheVariants.{TrailingPath, MiddleFolders, Alternatives}
@@ -19,7 +19,7 @@ size_character c = ap states_in (sym (rolls-Character c)) ∙ fold-roll-Token �
 pub size_any_character : states_in AnyCharacter ≡ 1
 size_any_character = ap states_in (sym rolls-AnyCharacter) ∙ fold-roll-Token ℕ states_step open_token.AnyCharacter
 
-pub size_class : (class : Class) → states_in (OneOf class) ≡ 1
+pub size_class : (class : CharacterClass) → states_in (OneOf class) ≡ 1
 size_class class = ap states_in (sym (rolls-OneOf class)) ∙ fold-roll-Token ℕ states_step (open_token.OneOf class)
 
 pub size_any_text : states_in AnyText ≡ 1

@@ -1,4 +1,4 @@
--- Pieces, one behind the other.
+-- Pieces, one after the other.
 use Rattle.std.proofs.Common.{◌≡◌, ℕ, ◌+◌, List, [], ◌∷◌, ◌++◌, length, refl, sym, ap, subst, ◌∙◌, append_assoc}
 use Rattle.std.proofs.Common.{append-nil, length-append, add_assoc}
 use Rattle.std.proofs.Math.Nat.{add-zero}

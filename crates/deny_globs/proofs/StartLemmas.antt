@@ -1,19 +1,17 @@
--- The states at which walks start, as one comes.
+-- The states at which walks start, with one more.
 use Rattle.std.proofs.Common.{◌≡◌, ℕ, List, reverse, refl, sym, subst, inl, inr}
 use Rattle.std.specs.Prelude.{◌⊎◌, ◌↔◌, Contains, [], Some, slice_get}
-use Rattle.deny_lists.proofs.Options.{none_is_no_some}
-use Rattle.deny_lists.proofs.Members.{contains_none}
+use Rattle.deny_base_lists.proofs.Options.{none_is_no_some}
+use Rattle.deny_base_lists.proofs.Members.{contains_none}
 use Rattle.deny_globs.specs.declared.starts.Starts.{Starts}
-use Rattle.deny_globs.specs.declared.state.State.{State}
-use Rattle.deny_globs.specs.declared.token.Token.{Token}
-use Rattle.deny_globs.specs.declared.words.Node.{Node}
-use Rattle.deny_globs.specs.private.Literals.{BeginsAll, EndsAll}
+use Rattle.deny_globs.specs.declared.state.GlobState.{GlobState}
+use Rattle.deny_globs.specs.declared.trie.TrieNode.{TrieNode}
 use Rattle.deny_globs.specs.Starts.{AreStarts, Starting, SomeStarts}
-use Rattle.deny_globs.specs.private.Starts.{KeepsStarts, AddsStart}
+use Rattle.deny_globs.specs.private.Starts.{KeepsStarts}
 use Rattle.deny_globs.specs.private.States.{SomeLeads}
-use Rattle.deny_globs.specs.Words.{IsTree, Finds, ends_here, goes_on}
-use Rattle.deny_globs.specs.private.Words.{Keeps, AddsWord}
-use Rattle.deny_globs.proofs.WordLemmas.{keeps_same}
+use Rattle.deny_globs.specs.Trie.{IsTrie, Finds, ends_here, goes_on}
+use Rattle.deny_globs.specs.private.Trie.{Keeps}
+use Rattle.deny_globs.proofs.TrieLemmas.{keeps_same}
 
 map_left : {A B C : Type 0} → (A → B) → A ⊎ C → B ⊎ C
 map_left f (inl a) = inl (f a)
@@ -23,70 +21,26 @@ map_right : {A B C : Type 0} → (B → C) → A ⊎ B → A ⊎ C
 map_right f (inl a) = inl a
 map_right f (inr b) = inr (f b)
 
-pub keeps_starts : {old new : Starts} → Keeps old.beginnings.items new.beginnings.items
+keeps_starts : {old new : Starts} → Keeps old.beginnings.items new.beginnings.items
     → Keeps old.endings.items new.endings.items → KeepsStarts old new
 keeps_starts prefix back = record {
-  are = record { beginnings = prefix.tree; endings = back.tree };
+  are = record { beginnings = prefix.trie; endings = back.trie };
   same = λ path number. (
     λ h. map_left (prefix.finds 0 path number).0 (map_right (back.finds 0 (reverse path) number).0 h),
     λ h. map_left (prefix.finds 0 path number).1 (map_right (back.finds 0 (reverse path) number).1 h),
   );
 }
 
-pub starts_same : {old new : Starts} → AreStarts old → new.beginnings.items ≡ old.beginnings.items
+starts_same : {old new : Starts} → AreStarts old → new.beginnings.items ≡ old.beginnings.items
     → new.endings.items ≡ old.endings.items → KeepsStarts old new
 starts_same are e f = keeps_starts (keeps_same are.beginnings e) (keeps_same are.endings f)
 
 pub starts_stay : {starts : Starts} → AreStarts starts → KeepsStarts starts starts
 starts_stay are = starts_same are refl refl
 
-pub added_beginning : {tokens : List Token} {own : ℕ} {word : List ℕ} {old new : Starts} → AreStarts old
-    → BeginsAll tokens word → AddsWord word own old.beginnings.items new.beginnings.items →
-    new.endings.items ≡ old.endings.items → AddsStart tokens own old new
-added_beginning {tokens} {own} {word} {old} {new} are begins adds same = record {
-  are = record { beginnings = adds.tree; endings = subst IsTree (sym same) are.endings };
-  kept = λ path number h. kept path number h;
-  added = λ path f. inl (adds.added path (begins path f));
-  only = λ path number h. only path number h;
-} where
-  kept : (path : List ℕ) (number : ℕ) → Starting old path number → Starting new path number
-  kept path number (inl h) = inl (adds.kept path number h)
-  kept path number (inr h) = inr (subst (λ l. Finds l 0 (reverse path) number) (sym same) h)
+-- a trie without nodes finds nothing
 
-  prefix : (path : List ℕ) (number : ℕ) → Finds old.beginnings.items 0 path number ⊎ (number ≡ own)
-      → Starting old path number ⊎ (number ≡ own)
-  prefix path number (inl h) = inl (inl h)
-  prefix path number (inr e) = inr e
-
-  only : (path : List ℕ) (number : ℕ) → Starting new path number → Starting old path number ⊎ (number ≡ own)
-  only path number (inl h) = prefix path number (adds.only path number h)
-  only path number (inr h) = inl (inr (subst (λ l. Finds l 0 (reverse path) number) same h))
-
-pub added_ending : {tokens : List Token} {own : ℕ} {word : List ℕ} {old new : Starts} → AreStarts old
-    → EndsAll tokens word → AddsWord word own old.endings.items new.endings.items →
-    new.beginnings.items ≡ old.beginnings.items → AddsStart tokens own old new
-added_ending {tokens} {own} {word} {old} {new} are ends adds same = record {
-  are = record { beginnings = subst IsTree (sym same) are.beginnings; endings = adds.tree };
-  kept = λ path number h. kept path number h;
-  added = λ path f. inr (adds.added (reverse path) (ends path f));
-  only = λ path number h. only path number h;
-} where
-  kept : (path : List ℕ) (number : ℕ) → Starting old path number → Starting new path number
-  kept path number (inl h) = inl (subst (λ l. Finds l 0 path number) (sym same) h)
-  kept path number (inr h) = inr (adds.kept (reverse path) number h)
-
-  back : (path : List ℕ) (number : ℕ) → Finds old.endings.items 0 (reverse path) number ⊎ (number ≡ own)
-      → Starting old path number ⊎ (number ≡ own)
-  back path number (inl h) = inl (inr h)
-  back path number (inr e) = inr e
-
-  only : (path : List ℕ) (number : ℕ) → Starting new path number → Starting old path number ⊎ (number ≡ own)
-  only path number (inl h) = inl (inl (subst (λ l. Finds l 0 path number) same h))
-  only path number (inr h) = back path number (adds.only (reverse path) number h)
-
--- nothing starts where nothing is
-
-no_node : {nodes : List Node} {number found : ℕ} {path : List ℕ} → nodes ≡ [] → Finds nodes number path found → ⊥
+no_node : {nodes : List TrieNode} {number found : ℕ} {path : List ℕ} → nodes ≡ [] → Finds nodes number path found → ⊥
 no_node {number = number} e (ends_here node at has) = none_is_no_some (subst (λ l. slice_get l number ≡ Some node) e at)
 no_node {number = number} e (goes_on edge rest) = none_is_no_some
     (subst (λ l. slice_get l number ≡ Some edge.node) e edge.at)
@@ -96,12 +50,12 @@ pub none_start : (starts : Starts) {path : List ℕ} {number : ℕ} → starts.b
 none_start starts e f (inl h) = no_node e h
 none_start starts e f (inr h) = no_node f h
 
-pub tree_none : {nodes : List Node} → nodes ≡ [] → IsTree nodes
-tree_none {nodes} e = subst IsTree (sym e) (record { within = λ n c next edge. none_is_no_some edge.at })
+pub tree_none : {nodes : List TrieNode} → nodes ≡ [] → IsTrie nodes
+tree_none {nodes} e = subst IsTrie (sym e) (record { within = λ n c next edge. none_is_no_some edge.at })
 
 -- the states that are found are those at which a walk starts
 
-pub found_starts : (starts : Starts) (path : List ℕ) (prefix ends : List Node) (back none mid found : List ℕ)
+pub found_starts : (starts : Starts) (path : List ℕ) (prefix ends : List TrieNode) (back none mid found : List ℕ)
     → none ≡ [] → prefix ≡ starts.beginnings.items → ends ≡ starts.endings.items → back ≡ reverse path →
     ((k : ℕ) → Contains mid k ↔ (Contains none k ⊎ Finds prefix 0 path k)) →
     ((k : ℕ) → Contains found k ↔ (Contains mid k ⊎ Finds ends 0 back k)) → (k : ℕ)
@@ -131,7 +85,7 @@ found_starts starts path prefix ends back none mid found e f g b first second k 
   from (inl h) = inl ((first k).1 (inr (prefix_is.1 h)))
   from (inr h) = inr (back_from h)
 
-pub leads_from_starts : {states : List State} {starts : Starts} {found path : List ℕ}
+pub leads_from_starts : {states : List GlobState} {starts : Starts} {found path : List ℕ}
     → ((k : ℕ) → Contains found k ↔ Starting starts path k) → (glob : ℕ)
     → SomeLeads states found glob path ↔ SomeStarts states starts glob path
 leads_from_starts same glob = (

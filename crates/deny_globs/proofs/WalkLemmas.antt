@@ -1,4 +1,4 @@
--- What the walk finds, index by index.
+-- The globs that the walk finds, index by index.
 use Rattle.std.proofs.Common.{◌≡◌, ℕ, zero, suc, ◌+◌, ◌*◌, ◌<◌, ◌≤◌, List, [], ◌∷◌, ◌++◌, length, take, drop, Bool}
 use Rattle.std.proofs.Common.{true, refl, sym, ap, subst, inl, inr, ◌∙◌, arith, get_or, eqb-true}
 use Rattle.std.specs.Prelude.{◌⊎◌, ◌↔◌, ◌==◌, Some, None, Contains, nat_eq, slice_get}
@@ -6,12 +6,12 @@ use Rattle.std.proofs.lemmas.Bool.{cases_lt, false≢true}
 use Rattle.std.proofs.lemmas.List.{take_more, get_or_append_left, get_or_default}
 use Rattle.std.proofs.lemmas.List.Elements.{Contains-get_or, Contains-push, Contains-push_cases, Contains-append_left}
 use Rattle.std.proofs.lemmas.Option.{slice_get_read}
-use Rattle.deny_lists.proofs.Members.{tail-same, contains_none}
-use Rattle.deny_lists.proofs.Options.{some_inj}
-use Rattle.deny_globs.specs.declared.state.State.{State}
-use Rattle.deny_globs.specs.declared.state.State.TheVariants.{End, Character, AnyCharacter, OneOf, AnyText, Either}
-use Rattle.deny_globs.specs.declared.state.State.TheVariants.{Never}
-use Rattle.deny_globs.specs.declared.token.Class.{Class}
+use Rattle.deny_base_lists.proofs.Members.{tail-same, contains_none}
+use Rattle.deny_base_lists.proofs.Options.{some_inj}
+use Rattle.deny_globs.specs.declared.state.GlobState.{GlobState}
+use Rattle.deny_globs.specs.declared.state.GlobState.TheVariants.{End, Character, AnyCharacter, OneOf, AnyText, Either}
+use Rattle.deny_globs.specs.declared.state.GlobState.TheVariants.{Never}
+use Rattle.deny_globs.specs.declared.token.CharacterClass.{CharacterClass}
 use Rattle.deny_globs.specs.Class.{class_takes}
 use Rattle.deny_globs.specs.private.Marked.{Extends, Marks, MarksIf}
 use Rattle.deny_globs.specs.States.{IsAtOnce, IsBehind, Leads, ends, over, aside}
@@ -25,9 +25,9 @@ head_same e = cc
 nil_is : {A P : Type 0} {x : A} {xs : List A} → [] ≡ x ∷ xs → P
 nil_is e = cc
 
--- one state
+-- ---- one state
 
-pub record FirstIs (test : ℕ → Bool) (rest : List ℕ) : Type 0 where
+record FirstIs (test : ℕ → Bool) (rest : List ℕ) : Type 0 where
   pub c : ℕ
   pub cs : List ℕ
   pub whole : rest ≡ c ∷ cs
@@ -37,7 +37,7 @@ first_is : (test : ℕ → Bool) (rest : List ℕ) → first_passes test rest �
 first_is test [] e = absurd (false≢true e)
 first_is test (c ∷ cs) e = record { c = c; cs = cs; whole = refl; passes = e }
 
-pub steps_over_none : {states : List State} {rest : List ℕ} {number : ℕ} {now next : List ℕ} (kind : State)
+pub steps_over_none : {states : List GlobState} {rest : List ℕ} {number : ℕ} {now next : List ℕ} (kind : GlobState)
     → slice_get states number ≡ Some kind →
     ((t : ℕ) → IsAtOnce kind t → ⊥) → ((c t : ℕ) → IsBehind number kind c t → ⊥)
     → StepsOver states rest number now now next next
@@ -52,8 +52,8 @@ steps_over_none {now = now} {next = next} kind at none_at_once none_behind = rec
   next_only = λ t h. inl h;
 }
 
-pub steps_over_one : {states : List State} {rest : List ℕ} {number next_number : ℕ} {now next after : List ℕ}
-    (kind : State) (test : ℕ → Bool) → slice_get states number ≡ Some kind →
+steps_over_one : {states : List GlobState} {rest : List ℕ} {number next_number : ℕ} {now next after : List ℕ}
+    (kind : GlobState) (test : ℕ → Bool) → slice_get states number ≡ Some kind →
     ((t : ℕ) → IsAtOnce kind t → ⊥) → ((c t : ℕ) → IsBehind number kind c t → (test c ≡ true) × (t ≡ next_number)) →
     ((c : ℕ) → test c ≡ true → IsBehind number kind c next_number)
     → MarksIf (first_passes test rest) next_number next after → StepsOver states rest number now now next after
@@ -75,26 +75,29 @@ steps_over_one {states} {rest} {number} {next_number} {now} {next} {after} kind 
       let f = first_is test rest h.0 in
       inr (f.c, f.cs, f.whole, subst (λ k. IsBehind number kind f.c k) (sym h.1) (from f.c f.passes))
 
-pub steps_over_character : {states : List State} {rest : List ℕ} {number d next_number : ℕ} {now next after : List ℕ}
+pub steps_over_character : {states : List GlobState} {rest : List ℕ} {number d next_number : ℕ}
+    {now next after : List ℕ}
     → slice_get states number ≡ Some (Character d next_number) →
     MarksIf (first_passes (nat_eq d) rest) next_number next after → StepsOver states rest number now now next after
 steps_over_character {d = d} {next_number = n} at m = steps_over_one (Character d n) (nat_eq d) at (λ t h. h)
     (λ c t h. h) (λ c e. (e, refl)) m
 
-pub steps_over_any_character : {states : List State} {rest : List ℕ} {number next_number : ℕ} {now next after : List ℕ}
+pub steps_over_any_character : {states : List GlobState} {rest : List ℕ} {number next_number : ℕ}
+    {now next after : List ℕ}
     → slice_get states number ≡ Some (AnyCharacter next_number) →
     MarksIf (first_passes (λ _. true) rest) next_number next after → StepsOver states rest number now now next after
 steps_over_any_character {next_number = n} at m = steps_over_one (AnyCharacter n) (λ _. true) at (λ t h. h)
     (λ c t h. (refl, h)) (λ c e. refl) m
 
-pub steps_over_class : {states : List State} {rest : List ℕ} {number next_number : ℕ} {class : Class}
+pub steps_over_class : {states : List GlobState} {rest : List ℕ} {number next_number : ℕ} {class : CharacterClass}
     {now next after : List ℕ} → slice_get states number ≡ Some (OneOf class next_number) →
     MarksIf (first_passes (class_takes class) rest) next_number next after
     → StepsOver states rest number now now next after
 steps_over_class {next_number = n} {class = class} at m = steps_over_one (OneOf class n) (class_takes class) at
     (λ t h. h) (λ c t h. h) (λ c e. (e, refl)) m
 
-pub steps_over_any_text : {states : List State} {rest : List ℕ} {number next_number : ℕ} {now later next after : List ℕ}
+pub steps_over_any_text : {states : List GlobState} {rest : List ℕ} {number next_number : ℕ}
+    {now later next after : List ℕ}
     → slice_get states number ≡ Some (AnyText next_number) →
     Marks next_number now later → MarksIf (first_passes (λ _. true) rest) number next after
     → StepsOver states rest number now later next after
@@ -113,7 +116,8 @@ steps_over_any_text {states} {rest} {number} {next_number} {now} {later} {next} 
   only t (inl h) = inl h
   only t (inr h) = let f = first_is (λ _. true) rest h.0 in inr (f.c, f.cs, f.whole, h.1)
 
-pub steps_over_either : {states : List State} {rest : List ℕ} {number first second : ℕ} {now mid later next : List ℕ}
+pub steps_over_either : {states : List GlobState} {rest : List ℕ} {number first second : ℕ}
+    {now mid later next : List ℕ}
     → slice_get states number ≡ Some (Either first second) →
     Marks first now mid → Marks second mid later → StepsOver states rest number now later next next
 steps_over_either {states} {rest} {number} {first} {second} {now} {mid} {later} {next} at a b = record {
@@ -138,22 +142,22 @@ steps_over_either {states} {rest} {number} {first} {second} {now} {mid} {later} 
   only t (inl h) = first_only t (a.only t h)
   only t (inr e) = inr (inr e)
 
--- the states of an index, as far as they are gone over
+-- ---- the states of an index, as far as they were visited
 
-pub record IsPassing (states : List State) (rest : List ℕ) (index : ℕ) (before now next : List ℕ) : Type 0 where
+pub record IsPassing (states : List GlobState) (rest : List ℕ) (index : ℕ) (before now next : List ℕ) : Type 0 where
   pub extends : Extends before now
   pub only : (number glob : ℕ) → Contains now number → Leads states glob number rest → SomeLeads states before glob rest
   pub next_only : (number glob c : ℕ) (cs : List ℕ) → Contains next number → rest ≡ c ∷ cs → Leads states glob number cs
       → SomeLeads states before glob rest
   pub next_some : (number : ℕ) → Contains next number → (c : ℕ) × (cs : List ℕ) × (rest ≡ c ∷ cs)
-  pub at_once : (k number other glob : ℕ) (state : State) → k < index → k < length now → get_or now k 0 ≡ number
+  pub at_once : (k number other glob : ℕ) (state : GlobState) → k < index → k < length now → get_or now k 0 ≡ number
       → slice_get states number ≡ Some state →
       IsAtOnce state other → Leads states glob other rest → Contains now other
-  pub behind : (k number other glob c : ℕ) (cs : List ℕ) (state : State) → k < index → k < length now
+  pub behind : (k number other glob c : ℕ) (cs : List ℕ) (state : GlobState) → k < index → k < length now
       → get_or now k 0 ≡ number → slice_get states number ≡ Some state →
       rest ≡ c ∷ cs → IsBehind number state c other → Leads states glob other cs → Contains next other
 
-pub passing_start : {states : List State} {rest before next : List ℕ} → next ≡ []
+pub passing_start : {states : List GlobState} {rest before next : List ℕ} → next ≡ []
     → IsPassing states rest 0 before before next
 passing_start {before = before} {next = next} e = record {
   extends = extends_same before;
@@ -164,7 +168,7 @@ passing_start {before = before} {next = next} e = record {
   behind = λ k n t g c cs s p q is at w h l. absurd (omega (arith, p));
 }
 
-pub passing_more : {states : List State} {rest : List ℕ} {index number : ℕ} {before now later next after : List ℕ}
+pub passing_more : {states : List GlobState} {rest : List ℕ} {index number : ℕ} {before now later next after : List ℕ}
     → index < length now → number ≡ get_or now index 0 →
     IsPassing states rest index before now next → StepsOver states rest number now later next after
     → IsPassing states rest (index + 1) before later after
@@ -206,10 +210,10 @@ passing_more {states} {rest} {index} {number} {before} {now} {later} {next} {aft
       sym (sym (get_or_append_left now s.now_extends.more 0 index less)
       ∙ (ap (λ l. get_or l index 0) (sym s.now_extends.whole) ∙ there)) ∙ sym is
 
-  same_state : (n : ℕ) (kind : State) → n ≡ number → slice_get states n ≡ Some kind → kind ≡ s.state
+  same_state : (n : ℕ) (kind : GlobState) → n ≡ number → slice_get states n ≡ Some kind → kind ≡ s.state
   same_state n kind same at = some_inj (sym (subst (λ j. slice_get states j ≡ Some kind) same at) ∙ s.at)
 
-  at_once : (k n t g : ℕ) (kind : State) → k < index + 1 → get_or later k 0 ≡ n → slice_get states n ≡ Some kind
+  at_once : (k n t g : ℕ) (kind : GlobState) → k < index + 1 → get_or later k 0 ≡ n → slice_get states n ≡ Some kind
       → IsAtOnce kind t → Leads states g t rest → Contains later t
   at_once k n t g kind q e at h l = elim (cases_lt k index) [
     | inl old ↦ extended_contains s.now_extends
@@ -219,7 +223,7 @@ passing_more {states} {rest} {index} {number} {before} {now} {later} {next} {aft
         s.at_once t g (subst (λ j. IsAtOnce j t) (same_state n kind same at) h) l
   ]
 
-  behind : (k n t g c : ℕ) (cs : List ℕ) (kind : State) → k < index + 1 → get_or later k 0 ≡ n
+  behind : (k n t g c : ℕ) (cs : List ℕ) (kind : GlobState) → k < index + 1 → get_or later k 0 ≡ n
       → slice_get states n ≡ Some kind → rest ≡ c ∷ cs → IsBehind n kind c t → Leads states g t cs → Contains after t
   behind k n t g c cs kind q e at w h l = elim (cases_lt k index) [
     | inl old ↦ extended_contains s.next_extends
@@ -230,15 +234,15 @@ passing_more {states} {rest} {index} {number} {before} {now} {later} {next} {aft
         (subst (λ j. IsBehind n j c t) (same_state n kind same at) h)) l
   ]
 
--- all states of the index are gone over
-record IsClosed (states : List State) (rest now next : List ℕ) : Type 0 where
-  at_once : (number other glob : ℕ) (state : State) → Contains now number → slice_get states number ≡ Some state
+-- ---- all states of an index were visited
+record IsClosed (states : List GlobState) (rest now next : List ℕ) : Type 0 where
+  at_once : (number other glob : ℕ) (state : GlobState) → Contains now number → slice_get states number ≡ Some state
       → IsAtOnce state other → Leads states glob other rest → Contains now other
-  behind : (number other glob c : ℕ) (cs : List ℕ) (state : State) → Contains now number
+  behind : (number other glob c : ℕ) (cs : List ℕ) (state : GlobState) → Contains now number
       → slice_get states number ≡ Some state → rest ≡ c ∷ cs →
       IsBehind number state c other → Leads states glob other cs → Contains next other
 
-closed_of : {states : List State} {rest : List ℕ} {index : ℕ} {before now next : List ℕ} → length now ≤ index
+closed_of : {states : List GlobState} {rest : List ℕ} {index : ℕ} {before now next : List ℕ} → length now ≤ index
     → IsPassing states rest index before now next → IsClosed states rest now next
 closed_of {now = now} all p = record {
   at_once = λ n t g kind h at k l. p.at_once h.0 n t g kind (omega (arith, all, h.1)) h.1
@@ -247,7 +251,7 @@ closed_of {now = now} all p = record {
       (get_or_default now h.0 0 n h.1 ∙ h.2) at e k l;
 }
 
-advance : {states : List State} {rest now next : List ℕ} {glob number c : ℕ} {cs ds : List ℕ}
+advance : {states : List GlobState} {rest now next : List ℕ} {glob number c : ℕ} {cs ds : List ℕ}
     → IsClosed states rest now next → rest ≡ c ∷ cs → ds ≡ rest → Contains now number →
     Leads states glob number ds → SomeLeads states next glob cs
 advance closed e same h (ends at) = nil_is (same ∙ e)
@@ -260,7 +264,8 @@ advance {states} {rest} {now} {next} {glob} {number} closed e same h
 advance {states} {rest} {now} {next} {glob} {number} closed e same h (aside {next = t} state at b l) =
     advance closed e same (closed.at_once number t glob state h at b (subst (λ x. Leads states glob t x) same l)) l
 
-arrive : {states : List State} {rest now next : List ℕ} {glob number : ℕ} {ds : List ℕ} → IsClosed states rest now next
+arrive : {states : List GlobState} {rest now next : List ℕ} {glob number : ℕ} {ds : List ℕ}
+    → IsClosed states rest now next
     → rest ≡ [] → ds ≡ rest → Contains now number →
     Leads states glob number ds → HasEnd states now glob
 arrive {number = number} closed e same h (ends at) = record { number = number; is_marked = h; is_end = at }
@@ -268,7 +273,7 @@ arrive closed e same h (over state at b l) = nil_is (sym (same ∙ e))
 arrive {states} {rest} {now} {next} {glob} {number} closed e same h (aside {next = t} state at b l) =
     arrive closed e same (closed.at_once number t glob state h at b (subst (λ x. Leads states glob t x) same l)) l
 
-pub passed : {states : List State} {rest : List ℕ} {index : ℕ} {before now next : List ℕ} → length now ≤ index
+pub passed : {states : List GlobState} {rest : List ℕ} {index : ℕ} {before now next : List ℕ} → length now ≤ index
     → IsPassing states rest index before now next → Passes states rest before now next
 passed {states} {rest} {index} {before} {now} {next} all p = record {
   on = λ c cs e glob. (
@@ -283,19 +288,10 @@ passed {states} {rest} {index} {before} {now} {next} all p = record {
   closed : IsClosed states rest now next
   closed = closed_of all p
 
--- the walk over the indices
+-- ---- the walk over the indices
 
-pub record IsAtIndex (states : List State) (starts path : List ℕ) (index : ℕ) (now : List ℕ) : Type 0 where
+pub record IsAtIndex (states : List GlobState) (starts path : List ℕ) (index : ℕ) (now : List ℕ) : Type 0 where
   pub leads : (glob : ℕ) → SomeLeads states starts glob path ↔ SomeLeads states now glob (drop index path)
-
-pub at_first_index : {states : List State} {starts path now : List ℕ} → ((n : ℕ) → Contains now n → Contains starts n)
-    → ((n : ℕ) → Contains starts n → Contains now n) → IsAtIndex states starts path 0 now
-at_first_index only all = record {
-  leads = λ glob. (
-    λ s. record { number = s.number; is_marked = all s.number s.is_marked; leads = s.leads },
-    λ s. record { number = s.number; is_marked = only s.number s.is_marked; leads = s.leads },
-  );
-}
 
 pub drop_one : (path : List ℕ) (index : ℕ) → index < length path
     → (c : ℕ) × (drop index path ≡ c ∷ drop (suc index) path)
@@ -307,21 +303,22 @@ drop_all : (path : List ℕ) → drop (length path) path ≡ []
 drop_all [] = refl
 drop_all (c ∷ cs) = drop_all cs
 
--- from nothing nothing leads
-pub nothing_leads : {states : List State} {marked : List ℕ} {glob : ℕ} {cs : List ℕ} → marked ≡ []
+-- nothing leads on from no states
+nothing_leads : {states : List GlobState} {marked : List ℕ} {glob : ℕ} {cs : List ℕ} → marked ≡ []
     → SomeLeads states marked glob cs → ⊥
 nothing_leads e s = contains_none (subst (λ l. Contains l s.number) e s.is_marked)
 
-pub nothing_starts : {states : List State} {glob : ℕ} {path : List ℕ} (starts : List ℕ) → (length starts == 0) ≡ true
+pub nothing_starts : {states : List GlobState} {glob : ℕ} {path : List ℕ} (starts : List ℕ)
+    → (length starts == 0) ≡ true
     → SomeLeads states starts glob path → ⊥
 nothing_starts [] e s = contains_none s.is_marked
 nothing_starts (n ∷ ns) e s = absurd (omega (arith, eqb-true (suc (length ns)) 0 e))
 
-pub no_more : {states : List State} {starts path now : List ℕ} {index glob : ℕ} → now ≡ []
+pub no_more : {states : List GlobState} {starts path now : List ℕ} {index glob : ℕ} → now ≡ []
     → IsAtIndex states starts path index now → SomeLeads states starts glob path → ⊥
 no_more {glob = glob} e at s = nothing_leads e ((at.leads glob).0 s)
 
-pub at_next_index : {states : List State} {starts path : List ℕ} (index : ℕ) {rest before now next : List ℕ}
+pub at_next_index : {states : List GlobState} {starts path : List ℕ} (index : ℕ) {rest before now next : List ℕ}
     → index < length path → rest ≡ drop index path → IsAtIndex states starts path index before →
     Passes states rest before now next → IsAtIndex states starts path (index + 1) next
 at_next_index {states} {starts} {path} index {rest} {before} {now} {next} less is at passes =
@@ -339,7 +336,7 @@ at_next_index {states} {starts} {path} index {rest} {before} {now} {next} less i
             );
       }
 
-pub at_last_index : {states : List State} {starts path : List ℕ} (index : ℕ) {rest before now next : List ℕ}
+pub at_last_index : {states : List GlobState} {starts path : List ℕ} (index : ℕ) {rest before now next : List ℕ}
     → index ≡ length path → rest ≡ drop (length path) path → IsAtIndex states starts path index before →
     Passes states rest before now next → (glob : ℕ) → SomeLeads states starts glob path ↔ HasEnd states now glob
 at_last_index {states} {starts} {path} index {rest} {before} {now} {next} last is at passes glob =
@@ -352,7 +349,7 @@ at_last_index {states} {starts} {path} index {rest} {before} {now} {next} last i
 pub rest_at_end : (path : List ℕ) {rest : List ℕ} → rest ≡ drop (length path) path → rest ≡ []
 rest_at_end path is = is ∙ drop_all path
 
--- notes
+-- ---- notes
 
 pub notes_same : {P Q : ℕ → Type 0} {old new : List ℕ} → ((glob : ℕ) → P glob ↔ Q glob) → Notes P old new
     → Notes Q old new
@@ -414,18 +411,18 @@ notes_one {n} {old} {new} e = record {
   from glob (inr same) = subst (λ k. Contains (old ++ n ∷ []) k) (sym same) (Contains-push old n)
 
 -- the end of a glob is noted as its number
-pub notes_ended : (kind : State) {n : ℕ} {old new : List ℕ} → end_of kind ≡ Some n → new ≡ old ++ n ∷ []
+pub notes_ended : (kind : GlobState) {n : ℕ} {old new : List ℕ} → end_of kind ≡ Some n → new ≡ old ++ n ∷ []
     → Notes (λ glob. end_of kind ≡ Some glob) old new
 notes_ended kind {n} at e = notes_same (λ glob. (λ same. at ∙ ap Some (sym same), λ there. some_inj (sym there ∙ at)))
     (notes_one e)
 
-pub notes_not_ended : (kind : State) {old new : List ℕ} → end_of kind ≡ None → new ≡ old
+pub notes_not_ended : (kind : GlobState) {old new : List ℕ} → end_of kind ≡ None → new ≡ old
     → Notes (λ glob. end_of kind ≡ Some glob) old new
 notes_not_ended kind none e = notes_none e (λ glob there. no_number (sym none ∙ there)) where
   no_number : {n : ℕ} → None ≡ Some n → ⊥
   no_number h = cc
 
-pub is_end_of : (kind : State) (glob : ℕ) → end_of kind ≡ Some glob → kind ≡ End glob
+is_end_of : (kind : GlobState) (glob : ℕ) → end_of kind ≡ Some glob → kind ≡ End glob
 is_end_of (End other) glob e = ap End (some_inj e)
 is_end_of (Character d next) glob e = cc
 is_end_of (AnyCharacter next) glob e = cc
@@ -434,7 +431,7 @@ is_end_of (AnyText next) glob e = cc
 is_end_of (Either first second) glob e = cc
 is_end_of Never glob e = cc
 
-pub notes_end : (states : List State) {number : ℕ} {kind : State} {old new : List ℕ} → number < length states
+pub notes_end : (states : List GlobState) {number : ℕ} {kind : GlobState} {old new : List ℕ} → number < length states
     → kind ≡ get_or states number kind →
     Notes (λ glob. end_of kind ≡ Some glob) old new → Notes (λ glob. slice_get states number ≡ Some (End glob)) old new
 notes_end states {number} {kind} inside is notes = notes_same same notes where
@@ -444,8 +441,8 @@ notes_end states {number} {kind} inside is notes = notes_same same notes where
   same : (glob : ℕ) → (end_of kind ≡ Some glob) ↔ (slice_get states number ≡ Some (End glob))
   same glob = (λ e. at ∙ ap Some (is_end_of kind glob e), λ e. ap end_of (some_inj (sym at ∙ e)))
 
--- one more of the marked
-pub notes_more : {states : List State} (marked : List ℕ) {k n : ℕ} {old mid new : List ℕ} → k < length marked
+-- one more of the marked states
+pub notes_more : {states : List GlobState} (marked : List ℕ) {k n : ℕ} {old mid new : List ℕ} → k < length marked
     → n ≡ get_or marked k 0 →
     Notes (HasEnd states (take k marked)) old mid → Notes (λ glob. slice_get states n ≡ Some (End glob)) mid new
     → Notes (HasEnd states (take (k + 1) marked)) old new
@@ -474,10 +471,11 @@ notes_more {states} marked {k} {n} {old} {mid} {new} less is first second = note
   joined glob (inr e) = record
       { number = n; is_marked = subst (λ l. Contains l n) (sym more) (Contains-push (take k marked) n); is_end = e }
 
-pub notes_start : {states : List State} (old : List ℕ) → Notes (HasEnd states []) old old
+pub notes_start : {states : List GlobState} (old : List ℕ) → Notes (HasEnd states []) old old
 notes_start {states} old = notes_none refl (λ glob h. contains_none h.is_marked)
 
-pub state_at : (states : List State) {number : ℕ} {x y : State} → number < length states → x ≡ get_or states number x
+pub state_at : (states : List GlobState) {number : ℕ} {x y : GlobState} → number < length states
+    → x ≡ get_or states number x
     → x ≡ y → slice_get states number ≡ Some y
 state_at states {number} {x} inside is e = slice_get_read states (length states) number x refl inside is ∙ ap Some e
 

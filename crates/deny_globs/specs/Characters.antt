@@ -1,4 +1,4 @@
--- The characters that mean more than themselves.
+-- The special characters of a pattern.
 use Rattle.std.specs.Prelude.{ℕ, List, [], ◌∷◌, Bool, false, ◌==◌, ◌&&◌, ◌||◌, not}
 
 abbrev pub slash : ℕ
@@ -38,7 +38,7 @@ close_brace = 125
 abbrev pub is_mark : ℕ → Bool
 is_mark c = (c == 33) || (c == 94)
 
--- a character that stands for itself wherever it is, but for what `/` begins
+-- a character that stands for itself everywhere, except that `/` begins some pieces
 abbrev pub is_plain : ℕ → Bool
 is_plain c = not (c == question_mark) &&
     (not (c == star) && (not (c == backslash) &&

@@ -1,4 +1,4 @@
--- Where a text that is no glob is bad.
+-- The first fault of a text that is no glob.
 use Rattle.std.specs.Prelude.{ℕ, ◌+◌, ◌<◌, ◌≡◌, List, [], ◌∷◌, ◌++◌, length, take, Bool, true, false, IsTrue, ◌==◌, not}
 use Rattle.std.specs.Prelude.{nat_lt, Option, Some, None, encode_utf8_all, if◌then◌else◌}
 use Rattle.std.specs.Str.{chars}
@@ -9,7 +9,7 @@ use Rattle.deny_globs.specs.Characters.{backslash, open_bracket, close_bracket, 
 use Rattle.deny_globs.specs.Pieces.{may_be_member, AreMembers, IsMark, Spells}
 use Rattle.deny_globs.specs.Tree.{most_braces}
 
--- the numbers of the `{` that are still open behind the pieces, the innermost first; none where a brace is wrong
+-- the numbers of the `{` that are still open after the pieces, the innermost first; none where a brace is wrong
 abbrev pub open_behind : List ℕ → List Piece → Option (List ℕ)
 open_behind opened [] = Some opened
 open_behind opened (Open at ∷ pieces) = if nat_lt (length opened) most_braces then open_behind (at ∷ opened) pieces
@@ -20,7 +20,7 @@ open_behind opened (Token token ∷ pieces) = open_behind opened pieces
 open_behind opened (Middle ∷ pieces) = open_behind opened pieces
 open_behind opened (Comma ∷ pieces) = open_behind opened pieces
 
--- the first of the opened, or this number where none is
+-- the first of the opened, or this number where none is open
 abbrev pub outermost : List ℕ → ℕ → ℕ
 outermost [] at = at
 outermost (last ∷ opened) at = outermost opened last
@@ -29,21 +29,21 @@ abbrev pub is_empty : List ℕ → Bool
 is_empty [] = true
 is_empty (c ∷ cs) = false
 
--- after members that are good, a range whose ends fall begins this many characters into the class
+-- a range whose ends fall begins this many characters into the class, after members that are good
 pub data FallsAt : List ℕ → ℕ → Type 0 where
   falls : {ranges : List CharacterRange} (members behind : List ℕ) (first last : ℕ) →
       AreMembers true members (first ∷ dash ∷ last ∷ behind) ranges → IsTrue (may_be_member (is_empty members) first)
       → IsTrue (not (last == close_bracket)) → last < first →
       FallsAt (members ++ first ∷ dash ∷ last ∷ behind) (length members)
 
--- what the text spells before its end, where all is good so far, and what comes then
+-- The text up to here spells pieces without a fault, and the characters after them remain.
 pub record IsReadTo (characters before behind opened : List ℕ) : Type 0 where
   pub pieces : List Piece
   pub whole : characters ≡ before ++ behind
   pub spelled : Spells 0 before behind pieces
   pub braces : open_behind [] pieces ≡ Some opened
 
--- the first bad character has this number
+-- the number of the first bad character
 pub data FirstFault : List ℕ → ℕ → Type 0 where
   unopened : {characters : List ℕ} (before behind : List ℕ) → IsReadTo characters before (close_brace ∷ behind) []
       → FirstFault characters (length before)
@@ -55,7 +55,7 @@ pub data FirstFault : List ℕ → ℕ → Type 0 where
   falling_range : {characters : List ℕ} {negated : Bool} (before mark body opened : List ℕ) (into : ℕ)
       → IsReadTo characters before (open_bracket ∷ (mark ++ body)) opened →
       IsMark mark body negated → FallsAt body into → FirstFault characters (length before + 1 + length mark + into)
-  -- nothing else is bad: the first of what is not closed
+  -- nothing else is bad: the first class or brace that is not closed
   unclosed_class : {characters : List ℕ} {negated : Bool} {ranges : List CharacterRange}
       (before mark members opened : List ℕ) → IsReadTo characters before (open_bracket ∷ (mark ++ members)) opened →
       IsMark mark members negated → AreMembers true members [] ranges
@@ -63,7 +63,7 @@ pub data FirstFault : List ℕ → ℕ → Type 0 where
   unclosed_brace : {characters : List ℕ} (last : ℕ) (opened : List ℕ)
       → IsReadTo characters characters [] (last ∷ opened) → FirstFault characters (outermost opened last)
 
--- the text is bad at this byte
+-- The first bad character of the text begins at this byte.
 pub record IsBadAt (text : List ℕ) (byte : ℕ) : Type 0 where
   pub character : ℕ
   pub fault : FirstFault (chars text) character

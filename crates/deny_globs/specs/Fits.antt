@@ -1,5 +1,5 @@
 use Rattle.std.specs.Prelude.{ℕ, List, [], ◌∷◌, ◌++◌, IsTrue}
-use Rattle.deny_globs.specs.declared.token.Class.{Class}
+use Rattle.deny_globs.specs.declared.token.CharacterClass.{CharacterClass}
 use Rattle.deny_globs.specs.declared.token.Token.{Token}
 use Rattle.deny_globs.specs.declared.token.Token.TheVariants.{Character, AnyCharacter, OneOf, AnyText, LeadingFolders}
 use Rattle.deny_globs.specs.declared.token.Token.TheVariants.{TrailingPath, MiddleFolders, Alternatives}
@@ -11,7 +11,7 @@ mutual
   pub data IsText : Token → List ℕ → Type 0 where
     itself : (c : ℕ) → IsText (Character c) (c ∷ [])
     any_character : (c : ℕ) → IsText AnyCharacter (c ∷ [])
-    member : (class : Class) (c : ℕ) → IsTrue (class_takes class c) → IsText (OneOf class) (c ∷ [])
+    member : (class : CharacterClass) (c : ℕ) → IsTrue (class_takes class c) → IsText (OneOf class) (c ∷ [])
     any_text : (cs : List ℕ) → IsText AnyText cs
     at_the_start : IsText LeadingFolders []
     below_the_start : (cs : List ℕ) → IsText LeadingFolders (cs ++ slash ∷ [])

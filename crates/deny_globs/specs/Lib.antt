@@ -10,5 +10,5 @@ pub mod Sets
 pub mod Starts
 pub mod States
 pub mod Tree
-pub mod Words
+pub mod Trie
 pub mod private

@@ -2,7 +2,7 @@
 use Rattle.std.specs.Prelude.{ℕ, List}
 use Rattle.deny_globs.specs.declared.token.Token.{Token}
 
--- its characters, and the tokens that they spell
+-- the characters of a glob, and the tokens that they spell
 abbrev pub Pattern : Type 0
 Pattern = List ℕ × List Token
 

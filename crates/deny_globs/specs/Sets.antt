@@ -1,4 +1,4 @@
--- What a set of globs says of a path, and how large it is.
+-- The globs of a set that fit a path, and the steps to find them.
 use Rattle.std.specs.Prelude.{ℕ, ◌≡◌, ◌<◌, ◌≤◌, ◌+◌, ◌*◌, ◌^◌, List, [], ◌∷◌, length, drop, Bool, true, false}
 use Rattle.std.specs.Prelude.{◌==◌, ◌&&◌, if◌then◌else◌, Some, Contains, IsSomeAnd, slice_get}
 use Rattle.std.specs.List.{list_all, sum_by}
@@ -23,14 +23,14 @@ is_simple (a ∷ b ∷ c ∷ cs) = (a == star) && ((b == dot) && list_all is_asc
 abbrev pub extension_of : List ℕ → List ℕ
 extension_of characters = drop 2 characters
 
--- the glob with this number is simple, and asks for this extension
+-- The glob with this number is simple, and asks for this extension.
 pub record AsksFor (globs : List Pattern) (i : ℕ) (name : List ℕ) : Type 0 where
   pub glob : Pattern
   pub at : slice_get globs i ≡ Some glob
   pub simple : is_simple (characters_of glob) ≡ true
   pub named : extension_of (characters_of glob) ≡ name
 
--- the glob with this number is not simple, and fits
+-- The glob with this number is not simple, and fits.
 pub record FitsOther (globs : List Pattern) (i : ℕ) (path : List ℕ) : Type 0 where
   pub glob : Pattern
   pub at : slice_get globs i ≡ Some glob
@@ -45,21 +45,21 @@ HasExtensions globs names = (i : ℕ) (name : List ℕ) → AsksFor globs i name
 abbrev pub HasSimpleHits : List Pattern → List ℕ → List ℕ → Type 0
 HasSimpleHits globs path hits = (i : ℕ) (name : List ℕ) → AsksFor globs i name → FitsAt globs i path → Contains hits i
 
--- twice the characters and 2, of each glob that is not simple
+-- the weight of a glob that is not simple: twice its characters, and 2
 abbrev pub weight : Pattern → ℕ
 weight glob = if is_simple (characters_of glob) then 0 else 2 * length (characters_of glob) + 2
 
 abbrev pub weight_of : List Pattern → ℕ
 weight_of globs = sum_by weight globs
 
--- the numbers are ascending, and the first of those of the globs that fit
+-- The numbers are ascending, and the first of those of the globs that fit.
 pub record AreFirstFitting (globs : List Pattern) (path indices : List ℕ) : Type 0 where
   pub ascending : IsStrictlyIncreasing indices
   pub fit : (i : ℕ) → Contains indices i → FitsAt globs i path
   pub first : (i j : ℕ) → Contains indices j → i < j → FitsAt globs i path → Contains indices i
 
--- the steps: for the least number d with 2^d above the number of extensions, d, one for each simple glob that fits, and
--- the weights once at each index of the path, its end too
+-- the bound of the steps: for the least number d with 2^d above the number of extensions, d, one for each simple glob
+-- that fits, and the weights once at each index of the path, its end too
 abbrev pub KeepsBound : List Pattern → List ℕ → ℕ → ℕ → Type 0
 KeepsBound globs path old new = (names : List (List ℕ)) (hits : List ℕ) (d : ℕ) → HasExtensions globs names
     → HasSimpleHits globs path hits → length names < 2 ^ d →

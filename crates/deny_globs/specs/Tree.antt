@@ -1,4 +1,4 @@
--- Pieces as tokens, and what a glob is.
+-- The tokens of pieces, and globs.
 use Rattle.std.specs.Prelude.{ℕ, zero, suc, ◌<◌, List, [], ◌∷◌, ◌++◌}
 use Rattle.deny_globs.specs.declared.token.Token.{Token}
 use Rattle.deny_globs.specs.declared.token.Token.TheVariants.{Character, AnyText, MiddleFolders, Alternatives}
@@ -7,7 +7,7 @@ use Rattle.deny_globs.specs.declared.piece.Piece.TheVariants.{Token as Whole, Mi
 use Rattle.deny_globs.specs.Characters.{slash, comma}
 use Rattle.deny_globs.specs.Pieces.{Spells}
 
--- how many braces may be open at once
+-- the largest number of braces that may be open at once
 abbrev pub most_braces : ℕ
 most_braces = 16
 
@@ -36,7 +36,7 @@ mutual
         AreTokens depth pieces tokens → AreAlternatives depth behind alternatives
         → AreAlternatives depth (pieces ++ Comma ∷ behind) (tokens ∷ alternatives)
 
--- the characters are a glob with these tokens
+-- The characters are a glob with these tokens.
 pub record IsGlob (characters : List ℕ) (tokens : List Token) : Type 0 where
   pub pieces : List Piece
   pub spelled : Spells 0 characters [] pieces

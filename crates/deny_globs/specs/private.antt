@@ -9,4 +9,4 @@ pub mod Starts
 pub mod States
 pub mod Steps
 pub mod Walk
-pub mod Words
+pub mod Trie

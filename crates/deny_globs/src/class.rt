@@ -7,8 +7,8 @@ ghost use Rattle.deny_globs.specs.private.Steps.{piece_of_class, StopsMembers, I
 
 use crate::piece::Piece;
 use crate::stop::Stop;
-use crate::token::{CharacterRange, Class, Token};
-use deny_lists::List;
+use crate::token::{CharacterClass, CharacterRange, Token};
+use deny_base_lists::List;
 use std::alloc::Global;
 
 /// Whether the first character begins a range.
@@ -21,7 +21,7 @@ fn is_range(rest: &[char]) -> bool
     }
 }
 
-/// Reads one member of a class, a character or a range, and says how many characters it has.
+/// Reads one member of a class, a character or a range, and returns how many characters it has.
 fn read_member(rest: &[char], at: usize, ranges: &mut List<CharacterRange>) -> Result<usize, Stop>
     requires { 0 < length rest.now }
     ensures ok { IfOk result (λ size. AddsMember rest.now size ranges.old ranges.new) }
@@ -40,7 +40,7 @@ fn read_member(rest: &[char], at: usize, ranges: &mut List<CharacterRange>) -> R
     Ok(3)
 }
 
-/// Whether the class closes behind so many characters of its members.
+/// Whether the class closes after this many characters of its members.
 fn is_closed(body: &[char], next: usize) -> bool
     requires { next < length body.now }
     ensures { MatchBool result (ClosesAt body.now next) (GoesOnAt body.now next) }
@@ -48,8 +48,8 @@ fn is_closed(body: &[char], next: usize) -> bool
     next > 0 && body[next] == ']'
 }
 
-/// Reads the members of a class up to the `]` that closes it, and says how many characters they
-/// have. A class that is not closed is reported at `unclosed`.
+/// Reads the members of a class up to the `]` that closes it, and returns how many characters they
+/// have. The fault of a class that is not closed is at `unclosed`.
 fn read_members(
     alloc: Global,
     body: &[char],
@@ -81,7 +81,7 @@ fn is_negated(body: &[char]) -> bool
     }
 }
 
-/// Reads a class from its `[` on, and says how many characters it has.
+/// Reads a class from its `[` on, and returns how many characters it has.
 pub fn read_class(
     alloc: Global,
     rest: &[char],
@@ -104,5 +104,5 @@ pub fn read_class(
 fn class_piece(negated: bool, ranges: List<CharacterRange>) -> Piece
     ensures { result ≡ piece_of_class negated ranges }
 {
-    Piece::Token(Token::OneOf(Class { negated, ranges }))
+    Piece::Token(Token::OneOf(CharacterClass { negated, ranges }))
 }

@@ -1,17 +1,17 @@
-ghost use Rattle.std.specs.Prelude.{◌≡◌, ◌<◌, ◌∷◌, ◌++◌, [], length, IfOk, OnErr};
+ghost use Rattle.std.specs.Prelude.{◌≡◌, ◌<◌, ◌∷◌, [], length, IfOk, OnErr};
 ghost use Rattle.deny_globs.specs.Characters.{slash};
 ghost use Rattle.deny_globs.specs.Compiled.{IsProgram};
 ghost use Rattle.deny_globs.specs.private.Compiled.{Grows, IsBuilt, IsBuiltOver, IsBuiltBeside, IsPushed};
 ghost use Rattle.deny_globs.specs.declared.token.Token.TheVariants.{Character as CharacterToken, LeadingFolders};
 ghost use Rattle.deny_globs.specs.declared.token.Token.TheVariants.{TrailingPath, MiddleFolders, OneOf};
 
-use crate::state::State;
-use crate::token::{Class, Token};
-use deny_lists::{List, NoMemory};
+use crate::state::GlobState;
+use crate::token::{CharacterClass, Token};
+use deny_base_lists::{List, NoMemory};
 use std::alloc::Global;
 
-/// Adds a state, and says its number.
-pub fn push_state(states: &mut Vec<State>, state: State) -> Result<usize, NoMemory>
+/// Adds a state, and returns its number.
+pub fn push_state(states: &mut Vec<GlobState>, state: GlobState) -> Result<usize, NoMemory>
     ensures ok { IfOk result (IsPushed state states.old.items states.new.items) }
     ensures err { OnErr result (states.new.items ≡ states.old.items) }
 {
@@ -20,41 +20,41 @@ pub fn push_state(states: &mut Vec<State>, state: State) -> Result<usize, NoMemo
     Ok(number)
 }
 
-/// A `/` before the state.
-fn push_slash(states: &mut Vec<State>, next: usize) -> Result<usize, NoMemory>
+/// Compiles a `/` before the next state.
+fn push_slash(states: &mut Vec<GlobState>, next: usize) -> Result<usize, NoMemory>
     requires program { IsProgram states.old.items }
     requires next { next < length states.old.items }
     ensures ok { IfOk result (IsBuilt (CharacterToken slash ∷ []) next states.old.items states.new.items) }
     ensures err { OnErr result (Grows states.old.items states.new.items) }
 {
-    push_state(states, State::Character('/', next))
+    push_state(states, GlobState::Character('/', next))
 }
 
-/// Nothing before the state, or any characters that end in `/`.
-fn push_leading(states: &mut Vec<State>, next: usize) -> Result<usize, NoMemory>
+/// Compiles nothing, or any characters that end in `/`, before the next state.
+fn push_leading(states: &mut Vec<GlobState>, next: usize) -> Result<usize, NoMemory>
     requires program { IsProgram states.old.items }
     requires next { next < length states.old.items }
     ensures ok { IfOk result (IsBuilt (LeadingFolders ∷ []) next states.old.items states.new.items) }
     ensures err { OnErr result (Grows states.old.items states.new.items) }
 {
     let slash = push_slash(states, next)?;
-    let folders = push_state(states, State::AnyText(slash))?;
-    push_state(states, State::Either(next, folders))
+    let folders = push_state(states, GlobState::AnyText(slash))?;
+    push_state(states, GlobState::Either(next, folders))
 }
 
-/// `/` and any characters before the state.
-fn push_trailing(states: &mut Vec<State>, next: usize) -> Result<usize, NoMemory>
+/// Compiles `/` and any characters before the next state.
+fn push_trailing(states: &mut Vec<GlobState>, next: usize) -> Result<usize, NoMemory>
     requires program { IsProgram states.old.items }
     requires next { next < length states.old.items }
     ensures ok { IfOk result (IsBuilt (TrailingPath ∷ []) next states.old.items states.new.items) }
     ensures err { OnErr result (Grows states.old.items states.new.items) }
 {
-    let below = push_state(states, State::AnyText(next))?;
+    let below = push_state(states, GlobState::AnyText(next))?;
     push_slash(states, below)
 }
 
-/// A `/` before the state, or any characters between two of them.
-fn push_middle(states: &mut Vec<State>, next: usize) -> Result<usize, NoMemory>
+/// Compiles a `/`, or any characters between two of them, before the next state.
+fn push_middle(states: &mut Vec<GlobState>, next: usize) -> Result<usize, NoMemory>
     requires program { IsProgram states.old.items }
     requires next { next < length states.old.items }
     ensures ok { IfOk result (IsBuilt (MiddleFolders ∷ []) next states.old.items states.new.items) }
@@ -65,21 +65,21 @@ fn push_middle(states: &mut Vec<State>, next: usize) -> Result<usize, NoMemory>
 }
 
 /// A copy of the class.
-fn copy_of(alloc: Global, class: &Class) -> Result<Class, NoMemory>
+fn copy_of(alloc: Global, class: &CharacterClass) -> Result<CharacterClass, NoMemory>
     ensures { IfOk result (λ copy. copy ≡ class.now) }
 {
     let ranges = List::from_vec(Vec::from_slice(alloc, class.ranges.as_slice())?);
-    Ok(Class {
+    Ok(CharacterClass {
         negated: class.negated,
         ranges,
     })
 }
 
-/// A character of the class before the state.
+/// Compiles a character of the class before the next state.
 fn push_class(
     alloc: Global,
-    states: &mut Vec<State>,
-    class: &Class,
+    states: &mut Vec<GlobState>,
+    class: &CharacterClass,
     next: usize,
 ) -> Result<usize, NoMemory>
     requires program { IsProgram states.old.items }
@@ -88,14 +88,14 @@ fn push_class(
     ensures err { OnErr result (Grows states.old.items states.new.items) }
 {
     let own = copy_of(alloc, class)?;
-    push_state(states, State::OneOf(own, next))
+    push_state(states, GlobState::OneOf(own, next))
 }
 
-/// The token before the state.
+/// Compiles the token before the next state.
 #[cycle(compile)]
 fn compile_token(
     alloc: Global,
-    states: &mut Vec<State>,
+    states: &mut Vec<GlobState>,
     token: &Token,
     next: usize,
 ) -> Result<usize, NoMemory>
@@ -105,10 +105,10 @@ fn compile_token(
     ensures err { OnErr result (Grows states.old.items states.new.items) }
 {
     match token {
-        Token::Character(own) => push_state(states, State::Character(*own, next)),
-        Token::AnyCharacter => push_state(states, State::AnyCharacter(next)),
+        Token::Character(own) => push_state(states, GlobState::Character(*own, next)),
+        Token::AnyCharacter => push_state(states, GlobState::AnyCharacter(next)),
         Token::OneOf(class) => push_class(alloc, states, class, next),
-        Token::AnyText => push_state(states, State::AnyText(next)),
+        Token::AnyText => push_state(states, GlobState::AnyText(next)),
         Token::LeadingFolders => push_leading(states, next),
         Token::TrailingPath => push_trailing(states, next),
         Token::MiddleFolders => push_middle(states, next),
@@ -121,11 +121,11 @@ fn compile_token(
     }
 }
 
-/// One of the alternatives before the state.
+/// Compiles one of the alternatives before the next state.
 #[cycle(compile)]
 fn compile_one(
     alloc: Global,
-    states: &mut Vec<State>,
+    states: &mut Vec<GlobState>,
     alternatives: &[List<Token>],
     next: usize,
 ) -> Result<usize, NoMemory>
@@ -134,18 +134,18 @@ fn compile_one(
     ensures ok { IfOk result (IsBuiltOver alternatives.now next states.old.items states.new.items) }
     ensures err { OnErr result (Grows states.old.items states.new.items) }
 {
-    let mut start = push_state(states, State::Never)?;
+    let mut start = push_state(states, GlobState::Never)?;
     for alternative in alternatives {
         start = compile_alternative(alloc, states, alternative, next, start)?;
     }
     Ok(start)
 }
 
-/// The tokens before the state `next`, or the state `others`.
+/// Compiles the tokens before the state `next`, or the state `others`.
 #[cycle(compile)]
 fn compile_alternative(
     alloc: Global,
-    states: &mut Vec<State>,
+    states: &mut Vec<GlobState>,
     tokens: &List<Token>,
     next: usize,
     others: usize,
@@ -157,14 +157,14 @@ fn compile_alternative(
     ensures err { OnErr result (Grows states.old.items states.new.items) }
 {
     let own = compile(alloc, states, tokens, next)?;
-    push_state(states, State::Either(others, own))
+    push_state(states, GlobState::Either(others, own))
 }
 
-/// The tokens before the state, from the last one.
+/// Compiles the tokens before the next state, from the last one on.
 #[cycle(compile)]
 pub fn compile(
     alloc: Global,
-    states: &mut Vec<State>,
+    states: &mut Vec<GlobState>,
     tokens: &List<Token>,
     next: usize,
 ) -> Result<usize, NoMemory>

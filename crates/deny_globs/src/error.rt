@@ -1,10 +1,10 @@
-use deny_lists::NoMemory;
+use deny_base_lists::NoMemory;
 use thiserror::Error;
 
 /// Why a text is no glob.
 #[derive(Debug, Clone, Copy, Error)]
 pub enum GlobError {
-    /// The text is no glob, and the character that begins at this byte is the first that is bad.
+    /// The text is no glob, and its first bad character begins at this byte.
     #[error("the text is no glob: the character at byte {0} is bad")]
     Bad(usize),
     #[error("memory ran out")]

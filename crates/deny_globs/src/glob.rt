@@ -1,5 +1,5 @@
-ghost use Rattle.std.specs.Prelude.{ℕ, ◌≡◌, ◌∷◌, ◌++◌, ◌↔◌, [], List, OnOk, OnErr, Contains, IsSomeAnd};
-ghost use Rattle.std.specs.Prelude.{slice_get, IfOk, Err, length, take, encode_utf8_all, ◌+◌, ◌<◌, ◌^◌};
+ghost use Rattle.std.specs.Prelude.{ℕ, ◌≡◌, List};
+ghost use Rattle.std.specs.Prelude.{IfOk, Err, length, take, encode_utf8_all, ◌+◌, ◌<◌, ◌^◌};
 ghost use Rattle.std.specs.Str.{chars};
 ghost use Rattle.deny_globs.specs.Faults.{IsBadAt};
 ghost use Rattle.deny_globs.specs.Patterns.{characters_of, tokens_of};
@@ -9,7 +9,7 @@ use crate::error::GlobError;
 use crate::reader::read_glob;
 use crate::stop::Stop;
 use crate::token::Token;
-use deny_lists::{List, NoMemory};
+use deny_base_lists::{List, NoMemory};
 use std::alloc::Global;
 use std::marker::Model;
 
@@ -41,9 +41,9 @@ impl Glob {
     ghost use Rattle.deny_globs.specs.declared.token.Token.{Token};
 
     /// Reads a text as a glob. `Bad` comes exactly where the text is no glob, with the byte offset
-    /// of the first character that is bad: a `}` with no `{` open, a `{` in sixteen open ones, a
-    /// `\` at the end, the first character of a range whose ends fall; and where none of these is
-    /// there, the first `{` or `[` that is not closed.
+    /// of the first bad character: a `}` with no `{` open, a `{` in sixteen open ones, a `\` at the
+    /// end, the first character of a range whose ends fall; and where there is none of these, the
+    /// first `{` or `[` that is not closed.
     pub fn parse(alloc: Global, text: &str) -> Result<Glob, GlobError>
         ensures ok { IfOk result (λ glob. IsGlob (chars text.now) (tokens_of glob)) }
         ensures only { IfOk result (λ glob. (other : List Token) → IsGlob (chars text.now) other
@@ -87,7 +87,7 @@ impl Glob {
     }
 }
 
-/// How many bytes the characters have as UTF-8.
+/// The number of bytes of the characters as UTF-8.
 fn bytes_in(characters: &[char]) -> usize
     requires { length (encode_utf8_all characters.now) < 2 ^ 64 }
     ensures { result ≡ length (encode_utf8_all characters.now) }
@@ -99,7 +99,7 @@ fn bytes_in(characters: &[char]) -> usize
     bytes
 }
 
-/// The byte of the text at which its character with this number begins.
+/// The byte offset at which the character of the text with this number begins.
 fn byte_of(text: &str, characters: &[char], number: usize) -> usize
     requires { characters.now ≡ chars text.now }
     ensures { result ≡ length (encode_utf8_all (take number (chars text.now))) }

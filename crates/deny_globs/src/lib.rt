@@ -36,10 +36,10 @@ mod starts;
 mod state;
 mod stop;
 mod token;
+mod trie;
 mod walk;
-mod words;
 
 pub use error::GlobError;
 pub use glob::Glob;
 pub use set::GlobSet;
-pub use token::{CharacterRange, Class, Token};
+pub use token::{CharacterClass, CharacterRange, Token};

@@ -2,20 +2,20 @@ ghost use Rattle.std.specs.Prelude.{ℕ, ◌≡◌, ◌<◌, ◌≤◌, ◌+◌,
 ghost use Rattle.std.specs.Prelude.{get_or, slice_index, true, false, Contains};
 ghost use Rattle.deny_globs.specs.private.Marked.{Marks, MarksIf};
 
-use deny_lists::{NoMemory, Steps};
+use deny_base_lists::{NoMemory, Steps};
 use std::alloc::Global;
 use std::marker::Model;
 use std::sync::ledger::Ledger;
 
 /// The states that are marked at one index of a path, in the order in which they were marked.
 #[derive(Drop)]
-pub struct Marked {
+pub struct MarkedStates {
     order: Vec<usize>,
     marks: Vec<bool>,
 }
 
-/// Contracts see the states in their order, and for how many there is room.
-impl Model for Marked {
+/// Contracts see the states in their order, and the capacity.
+impl Model for MarkedStates {
     ghost use Rattle.std.specs.Prelude.{ℕ, List, length};
     ghost use Rattle.deny_globs.specs.private.Marked.{IsMarked};
 
@@ -26,20 +26,20 @@ impl Model for Marked {
     ghost invariant = { λ m. IsMarked m.order.items m.marks.items };
 }
 
-impl Marked {
-    /// No marks, for this many states.
-    pub fn new(alloc: Global, states: usize) -> Result<Marked, NoMemory>
+impl MarkedStates {
+    /// No marks, with room for this many states.
+    pub fn new(alloc: Global, states: usize) -> Result<MarkedStates, NoMemory>
         ensures empty { IfOk result (λ m. m.0 ≡ []) }
         ensures room { IfOk result (λ m. m.1 ≡ states) }
     {
         let marks = vec![in alloc; false; states]?;
-        Ok(Marked {
+        Ok(MarkedStates {
             order: Vec::new(alloc),
             marks,
         })
     }
 
-    /// Marks a state, where it is not marked.
+    /// Marks a state where it is not marked yet.
     pub fn mark<L: Ledger>(&mut self, state: usize, steps: &mut Steps<L>) -> Result<(), NoMemory>
         requires inside { state < self.old.1 }
         requires bound { length self.old.0 ≤ self.old.1 }
@@ -57,7 +57,7 @@ impl Marked {
         Ok(())
     }
 
-    /// Takes all marks away.
+    /// Clears all marks.
     pub fn clear(&mut self)
         ensures empty { self.new.0 ≡ [] }
         ensures room { self.new.1 ≡ self.old.1 }
@@ -87,7 +87,7 @@ impl Marked {
         Ok(())
     }
 
-    /// How many states are marked.
+    /// The number of marked states.
     pub fn count(&self) -> usize
         ensures count { result ≡ length self.now.0 }
         ensures bound { length self.now.0 ≤ self.now.1 }
@@ -102,7 +102,7 @@ impl Marked {
         self.order.is_empty()
     }
 
-    /// The state that was marked with this number.
+    /// The state at this index of the order in which they were marked.
     pub fn at(&self, index: usize) -> usize
         requires { index < length self.now.0 }
         ensures value { result ≡ slice_index self.now.0 index }
@@ -120,7 +120,7 @@ impl Marked {
     }
 }
 
-/// Takes the marks away that the order lists, which are all.
+/// Clears the marks that the order lists, which are all.
 fn clear_marks(order: &[usize], marks: &mut Vec<bool>)
     requires listed { (number : ℕ) → get_or marks.old.items number false ≡ true → Contains order.now number }
     requires within { (number : ℕ) → Contains order.now number → number < length marks.old.items }

@@ -7,13 +7,13 @@ ghost use Rattle.deny_globs.specs.Tree.{IsGlob};
 
 use crate::class::read_class;
 use crate::piece::Piece;
-use crate::reading::{Reading, finish, outermost, read_on};
+use crate::reading::{GlobReading, finish, outermost, read_on};
 use crate::stop::Stop;
 use crate::token::Token;
-use deny_lists::List;
+use deny_base_lists::List;
 use std::alloc::Global;
 
-/// How many `*` come first.
+/// The number of `*` at the start.
 fn count_stars(rest: &[char]) -> usize
     ensures { result ≡ length (take_while (λ c. c == star) rest.now) }
 {
@@ -32,7 +32,7 @@ fn begins_slash(rest: &[char]) -> bool
     }
 }
 
-/// Whether so many `*` at this index are part of `**/` at the start.
+/// Whether this many `*` at this index are part of `**/` at the start.
 fn is_leading(rest: &[char], at: usize, count: usize) -> bool
     requires { count ≤ length rest.now }
     ensures { result ≡ is_leading at count (drop count rest.now) }
@@ -40,7 +40,7 @@ fn is_leading(rest: &[char], at: usize, count: usize) -> bool
     at == 0 && count == 2 && begins_slash(&rest[count..])
 }
 
-/// Reads a run of `*`, with the `/` behind it where the run is part of `**/` at the start.
+/// Reads a run of `*`, with the `/` after it where the run is part of `**/` at the start.
 fn read_stars(rest: &[char], at: usize) -> (Piece, usize)
     requires { IsTrue (begins star rest.now) }
     ensures { IsPieceOf at rest.now result.1 result.0 }
@@ -52,7 +52,7 @@ fn read_stars(rest: &[char], at: usize) -> (Piece, usize)
     (Piece::Token(Token::AnyText), count)
 }
 
-/// Whether `**` is all that is behind the first character.
+/// Whether only `**` follows the first character.
 fn is_trailing(rest: &[char]) -> bool
     ensures { result ≡ is_trailing (drop 1 rest.now) }
 {
@@ -62,7 +62,7 @@ fn is_trailing(rest: &[char]) -> bool
     }
 }
 
-/// Whether `**/` is right behind the first character.
+/// Whether `**/` follows the first character.
 fn is_middle(rest: &[char]) -> bool
     ensures { result ≡ is_middle (drop 1 rest.now) }
 {
@@ -72,7 +72,7 @@ fn is_middle(rest: &[char]) -> bool
     }
 }
 
-/// Reads a `/`, with what is behind it where it begins `/**/`, or `/**` at the end.
+/// Reads a `/`, with the characters after it where it begins `/**/`, or `/**` at the end.
 fn read_slash(rest: &[char], at: usize) -> (Piece, usize)
     requires { IsTrue (begins slash rest.now) }
     ensures { IsPieceOf at rest.now result.1 result.0 }
@@ -86,7 +86,7 @@ fn read_slash(rest: &[char], at: usize) -> (Piece, usize)
     (Piece::Token(Token::Character('/')), 1)
 }
 
-/// Reads the character behind a `\`, which stands for itself.
+/// Reads the character after a `\`, which stands for itself.
 fn read_escaped(rest: &[char], at: usize, unclosed: usize) -> Result<(Piece, usize), Stop>
     requires { IsTrue (begins backslash rest.now) }
     ensures ok { IfOk result (λ read. IsPieceOf at rest.now read.1 read.0) }
@@ -98,8 +98,8 @@ fn read_escaped(rest: &[char], at: usize, unclosed: usize) -> Result<(Piece, usi
     }
 }
 
-/// Reads the piece that the pattern goes on with, and says how many characters it has; `at` is the
-/// number of the first, and a class that is not closed is reported at `unclosed`.
+/// Reads the next piece of the pattern, and returns how many characters it has; `at` is the number
+/// of the first, and the fault of a class that is not closed is at `unclosed`.
 pub fn read_piece(
     alloc: Global,
     rest: &[char],
@@ -124,12 +124,12 @@ pub fn read_piece(
     }
 }
 
-/// Reads on by the next piece, and says how many characters it has.
+/// Reads the next piece into the reading, and returns how many characters it has.
 fn read_next(
     alloc: Global,
     characters: &[char],
     next: usize,
-    reading: &mut Reading,
+    reading: &mut GlobReading,
 ) -> Result<usize, Stop>
     requires some { next < length characters.now }
     requires room { length characters.now < 2 ^ 63 }
@@ -148,7 +148,7 @@ pub fn read_glob(alloc: Global, characters: &[char]) -> Result<List<Token>, Stop
     ensures ok { IfOk result (IsGlob characters.now) }
     ensures stop { IfErr result (StopsGlob characters.now) }
 {
-    let mut reading = Reading {
+    let mut reading = GlobReading {
         opened: List::new(alloc),
         tokens: List::new(alloc),
     };

@@ -6,35 +6,35 @@ ghost use Rattle.deny_globs.specs.Tree.{most_braces};
 use crate::piece::Piece;
 use crate::stop::Stop;
 use crate::token::Token;
-use deny_lists::List;
+use deny_base_lists::List;
 use std::alloc::Global;
 use std::mem;
 
-/// How many braces may be open at once.
+/// The largest number of braces that may be open at once.
 const MOST_BRACES: usize = 16;
 
 /// A `{` that is not closed yet.
 #[derive(Drop)]
-pub struct Opened {
+pub struct OpenBrace {
     /// The number of its character.
     pub at: usize,
-    /// The tokens in front of it, as far as the `{` or `,` around it.
+    /// The tokens before it, back to the `{` or `,` around it.
     pub before: List<Token>,
     /// Its alternatives that a `,` has ended.
     pub alternatives: List<List<Token>>,
 }
 
-/// What has been read of a pattern.
+/// The part of a pattern that was read.
 #[derive(Drop)]
-pub struct Reading {
+pub struct GlobReading {
     /// The braces that are open, the outermost first.
-    pub opened: List<Opened>,
+    pub opened: List<OpenBrace>,
     /// The tokens since the last `{` or `,` that is not closed, or since the start.
     pub tokens: List<Token>,
 }
 
 /// The number of the outermost open `{`, or this number where none is open.
-pub fn outermost(opened: &List<Opened>, at: usize) -> usize
+pub fn outermost(opened: &List<OpenBrace>, at: usize) -> usize
     ensures { result ≡ outermost_of opened.now at }
 {
     match opened.as_slice() {
@@ -43,8 +43,8 @@ pub fn outermost(opened: &List<Opened>, at: usize) -> usize
     }
 }
 
-/// Goes on by a piece.
-pub fn read_on(alloc: Global, reading: &mut Reading, piece: Piece) -> Result<(), Stop>
+/// Adds a piece to the reading.
+pub fn read_on(alloc: Global, reading: &mut GlobReading, piece: Piece) -> Result<(), Stop>
     ensures ok { OnOk result (after_piece (inner_first reading.old) piece ≡ Some (inner_first reading.new)) }
     ensures stop { IfErr result (StopsReading (inner_first reading.old) piece) }
 {
@@ -57,7 +57,7 @@ pub fn read_on(alloc: Global, reading: &mut Reading, piece: Piece) -> Result<(),
     }
 }
 
-fn add_token(reading: &mut Reading, token: Token) -> Result<(), Stop>
+fn add_token(reading: &mut GlobReading, token: Token) -> Result<(), Stop>
     ensures ok { OnOk result (reading.new ≡ record reading.old { tokens = reading.old.tokens ++ token ∷ [] }) }
     ensures stop { OnErr result (result ≡ Err Stop.Memory) }
 {
@@ -65,8 +65,8 @@ fn add_token(reading: &mut Reading, token: Token) -> Result<(), Stop>
     Ok(())
 }
 
-/// `/**/`, which inside braces is three tokens.
-fn add_middle(reading: &mut Reading) -> Result<(), Stop>
+/// Adds a `/**/`, which is three tokens inside braces.
+fn add_middle(reading: &mut GlobReading) -> Result<(), Stop>
     ensures ok { let tokens = reading.old.tokens ++ middle_of reading.old.opened in
         OnOk result (reading.new ≡ record reading.old { tokens = tokens }) }
     ensures stop { OnErr result (result ≡ Err Stop.Memory) }
@@ -79,8 +79,8 @@ fn add_middle(reading: &mut Reading) -> Result<(), Stop>
     add_token(reading, Token::Character('/'))
 }
 
-/// `{`
-fn open(alloc: Global, reading: &mut Reading, at: usize) -> Result<(), Stop>
+/// Opens a brace at a `{`.
+fn open(alloc: Global, reading: &mut GlobReading, at: usize) -> Result<(), Stop>
     ensures ok { OnOk result (OpensAt at reading.old reading.new) }
     ensures stop { IfErr result (λ stop. StopsAt at (most_braces ≤ length reading.old.opened) stop) }
 {
@@ -88,7 +88,7 @@ fn open(alloc: Global, reading: &mut Reading, at: usize) -> Result<(), Stop>
         return Err(Stop::Fault(at));
     }
     let before = mem::replace(&mut reading.tokens, List::new(alloc));
-    reading.opened.push(Opened {
+    reading.opened.push(OpenBrace {
         at,
         before,
         alternatives: List::new(alloc),
@@ -96,16 +96,16 @@ fn open(alloc: Global, reading: &mut Reading, at: usize) -> Result<(), Stop>
     Ok(())
 }
 
-/// Takes the innermost open brace out.
-fn take_innermost(opened: &mut List<Opened>) -> Option<Opened>
+/// Takes out the innermost open brace.
+fn take_innermost(opened: &mut List<OpenBrace>) -> Option<OpenBrace>
     ensures { MatchOption result ((opened.old ≡ []) × (opened.new ≡ []))
         (λ innermost. opened.old ≡ opened.new ++ innermost ∷ []) }
 {
     opened.vec.pop()
 }
 
-/// `,`, which ends an alternative inside braces.
-fn part(alloc: Global, reading: &mut Reading) -> Result<(), Stop>
+/// Ends an alternative at a `,` inside braces.
+fn part(alloc: Global, reading: &mut GlobReading) -> Result<(), Stop>
     ensures ok { OnOk result (Parts reading.old reading.new) }
     ensures stop { OnErr result (result ≡ Err Stop.Memory) }
 {
@@ -120,15 +120,15 @@ fn part(alloc: Global, reading: &mut Reading) -> Result<(), Stop>
     }
 }
 
-/// `}`
-fn close(reading: &mut Reading, at: usize) -> Result<(), Stop>
+/// Closes the innermost brace at a `}`.
+fn close(reading: &mut GlobReading, at: usize) -> Result<(), Stop>
     ensures ok { OnOk result (Closes reading.old reading.new) }
     ensures stop { IfErr result (λ stop. StopsAt at (reading.old.opened ≡ []) stop) }
 {
     match take_innermost(&mut reading.opened) {
         None => Err(Stop::Fault(at)),
         Some(opened) => {
-            let Opened {
+            let OpenBrace {
                 at: _,
                 before,
                 mut alternatives,
@@ -140,12 +140,12 @@ fn close(reading: &mut Reading, at: usize) -> Result<(), Stop>
     }
 }
 
-/// What the pattern is at its end: its tokens, where no brace is open.
-pub fn finish(reading: Reading) -> Result<List<Token>, Stop>
+/// The tokens of the pattern at its end, where no brace is open.
+pub fn finish(reading: GlobReading) -> Result<List<Token>, Stop>
     ensures ok { IfOk result (λ tokens. (reading.opened ≡ []) × (tokens ≡ reading.tokens)) }
     ensures stop { IfErr result (StopsEnd reading.opened) }
 {
-    let Reading { opened, tokens } = reading;
+    let GlobReading { opened, tokens } = reading;
     match opened.as_slice() {
         [first, ..] => Err(Stop::Fault(first.at)),
         [] => Ok(tokens),

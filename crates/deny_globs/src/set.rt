@@ -1,5 +1,5 @@
-ghost use Rattle.std.specs.Prelude.{ℕ, List, ◌≡◌, ◌<◌, ◌≤◌, ◌+◌, ◌*◌, ◌^◌, ◌↔◌, ◌∷◌, ◌++◌, []};
-ghost use Rattle.std.specs.Prelude.{length, OnOk, OnErr, Contains, IfOk};
+ghost use Rattle.std.specs.Prelude.{ℕ, List, ◌≡◌, ◌<◌, ◌≤◌, ◌+◌, ◌*◌, ◌↔◌, ◌∷◌, ◌++◌, []};
+ghost use Rattle.std.specs.Prelude.{length, OnOk, OnErr, Contains};
 ghost use Rattle.std.specs.List.Sorted.{IsStrictlyIncreasing};
 ghost use Rattle.std.specs.Str.{chars};
 ghost use Rattle.deny_globs.specs.Compiled.{IsProgram};
@@ -14,22 +14,22 @@ ghost use Rattle.deny_globs.specs.private.Starts.{KeepsStarts};
 ghost use Rattle.deny_globs.specs.private.Walk.{Notes};
 
 use crate::compile::{compile, push_state};
-use crate::extensions::{Extension, add_extension, find_extension, is_simple, last_extension};
+use crate::extensions::{GlobExtension, add_extension, find_extension, is_simple, last_extension};
 use crate::glob::{Glob, characters_of};
 use crate::starts::{Starts, add_start, starts_for};
-use crate::state::State;
+use crate::state::GlobState;
 use crate::walk::walk;
-use deny_lists::{List, NoMemory, Steps, put_in_order};
+use deny_base_lists::{List, NoMemory, Steps, put_in_order};
 use std::alloc::Global;
 use std::marker::{Brand, Model};
 use std::sync::ledger::{Blank, Ledger};
 
-/// Globs, each with the number that it was added as.
+/// Globs, each numbered in the order in which they were added.
 #[derive(Drop)]
 pub struct GlobSet {
     globs: List<Glob>,
-    extensions: Vec<Extension>,
-    states: Vec<State>,
+    extensions: Vec<GlobExtension>,
+    states: Vec<GlobState>,
     starts: Starts,
 }
 
@@ -50,7 +50,7 @@ impl Model for GlobSet {
 }
 
 impl GlobSet {
-    /// The set with no globs.
+    /// The set without globs.
     pub fn empty(alloc: Global) -> GlobSet
         ensures { result ≡ [] }
     {
@@ -65,7 +65,7 @@ impl GlobSet {
         }
     }
 
-    /// Adds a glob, whose number is how many there were.
+    /// Adds a glob, whose number is the number of globs before it.
     pub fn add(&mut self, glob: Glob) -> Result<(), NoMemory>
         ensures ok { OnOk result (self.new ≡ self.old ++ glob ∷ []) }
         ensures err { OnErr result (self.new ≡ self.old) }
@@ -84,7 +84,7 @@ impl GlobSet {
     }
 
     /// Clears the list, and puts into it the numbers of the globs that fit the whole path,
-    /// ascending. On want of memory the list holds the first of them.
+    /// ascending. Where memory runs out, the list holds the first of them.
     pub fn matches(&self, path: &str, indices: &mut Vec<usize>) -> Result<(), NoMemory>
         ensures ascending { OnOk result (IsStrictlyIncreasing indices.new.items) }
         ensures exact { OnOk result ((i : ℕ) → Contains indices.new.items i ↔ FitsAt self.now i (chars path.now)) }
@@ -95,8 +95,8 @@ impl GlobSet {
         find_uncounted::<Brand>(self, &characters, indices, Blank::new(1))
     }
 
-    /// The same, and counts its steps: a step is one comparison of extensions, one number of a
-    /// simple glob given, or one state marked at one index of the path.
+    /// Does what `matches` does, and counts its steps: a step is one comparison of extensions, one
+    /// number of a simple glob reported, or one state marked at one index of the path.
     pub fn matches_counted<L: Ledger>(
         &self,
         path: &str,
@@ -114,8 +114,8 @@ impl GlobSet {
     }
 }
 
-/// Puts the numbers of the globs that fit into the list, which is empty, and stays so without
-/// memory for all of them.
+/// Puts the numbers of the globs that fit into the list, which is empty, and stays empty where
+/// memory for all of them runs out.
 fn find_fitting<L: Ledger>(
     set: &GlobSet,
     path: &[char],
@@ -134,7 +134,7 @@ fn find_fitting<L: Ledger>(
     Ok(())
 }
 
-/// The same, where no steps are counted.
+/// Does what `find_fitting` does, without counting steps.
 fn find_uncounted<L: Ledger>(
     set: &GlobSet,
     path: &[char],
@@ -172,8 +172,8 @@ fn note_fitting<L: Ledger>(
 fn index_glob(
     glob: &Glob,
     number: usize,
-    extensions: &mut Vec<Extension>,
-    states: &mut Vec<State>,
+    extensions: &mut Vec<GlobExtension>,
+    states: &mut Vec<GlobState>,
     starts: &mut Starts,
 ) -> Result<(), NoMemory>
     requires ascend { Ascend extensions.old.items }
@@ -192,11 +192,12 @@ fn index_glob(
     add_states(glob, number, states, starts)
 }
 
-/// Puts a glob that is not simple among the states; without memory for all of it, nothing comes.
+/// Compiles a glob that is not simple into the states; where memory for all of it runs out, no
+/// state is added.
 fn add_states(
     glob: &Glob,
     number: usize,
-    states: &mut Vec<State>,
+    states: &mut Vec<GlobState>,
     starts: &mut Starts,
 ) -> Result<(), NoMemory>
     requires program { IsProgram states.old.items }
@@ -215,11 +216,11 @@ fn add_states(
     }
 }
 
-/// Puts a glob among the states.
+/// Compiles a glob into the states.
 fn push_glob(
     glob: &Glob,
     number: usize,
-    states: &mut Vec<State>,
+    states: &mut Vec<GlobState>,
     starts: &mut Starts,
 ) -> Result<(), NoMemory>
     requires program { IsProgram states.old.items }
@@ -229,15 +230,15 @@ fn push_glob(
     ensures starts { OnErr result (KeepsStarts starts.old starts.new) }
 {
     let alloc = *states.allocator();
-    let end = push_state(states, State::End(number))?;
+    let end = push_state(states, GlobState::End(number))?;
     let tokens = glob.tokens();
     let start = compile(alloc, states, tokens, end)?;
     add_start(alloc, starts, tokens.as_slice(), start)
 }
 
-/// Notes the simple globs that fit by the path's extension.
+/// Notes the simple globs that fit by the extension of the path.
 fn note_simple<L: Ledger>(
-    extensions: &[Extension],
+    extensions: &[GlobExtension],
     path: &[char],
     fitting: &mut List<usize>,
     steps: &mut Steps<L>,
@@ -254,7 +255,7 @@ fn note_simple<L: Ledger>(
 
 /// Notes the simple globs that ask for this extension.
 fn note_named<L: Ledger>(
-    extensions: &[Extension],
+    extensions: &[GlobExtension],
     name: &[char],
     fitting: &mut List<usize>,
     steps: &mut Steps<L>,
@@ -269,7 +270,7 @@ fn note_named<L: Ledger>(
     }
 }
 
-/// Notes these globs, with a step for each.
+/// Notes these globs, with one step for each.
 fn note_all<L: Ledger>(
     globs: &[usize],
     fitting: &mut List<usize>,

@@ -4,20 +4,21 @@ ghost use Rattle.deny_globs.specs.private.Starts.{AddsStart, KeepsStarts};
 
 use crate::literals::{backward, literal_beginning, literal_ending};
 use crate::token::Token;
-use crate::words::{Node, add_word, find_words};
-use deny_lists::NoMemory;
+use crate::trie::{TrieNode, add_literal, find_prefixes};
+use deny_base_lists::NoMemory;
 use std::alloc::Global;
 
-/// The states at which globs start, by what each path begins or ends with that a glob fits.
+/// The states at which globs start, by a literal that each path begins or ends with that the glob
+/// fits.
 #[derive(Drop)]
 pub struct Starts {
-    /// By the characters with which the paths begin.
-    pub beginnings: Vec<Node>,
-    /// By the characters with which the paths end, the last one first.
-    pub endings: Vec<Node>,
+    /// The starts by the literals that the paths begin with.
+    pub beginnings: Vec<TrieNode>,
+    /// The starts by the literals that the paths end with, the last character first.
+    pub endings: Vec<TrieNode>,
 }
 
-/// Puts the start of a glob with these tokens under the longer of its two words.
+/// Puts the start of a glob with these tokens under the longer of its two literals.
 pub fn add_start(
     alloc: Global,
     starts: &mut Starts,
@@ -31,9 +32,9 @@ pub fn add_start(
     let beginning = literal_beginning(alloc, tokens)?;
     let ending = literal_ending(alloc, tokens)?;
     if ending.len() < beginning.len() {
-        return add_word(&mut starts.beginnings, &beginning, number);
+        return add_literal(&mut starts.beginnings, &beginning, number);
     }
-    add_word(&mut starts.endings, &ending, number)
+    add_literal(&mut starts.endings, &ending, number)
 }
 
 /// The states at which the globs start that can fit the path.
@@ -42,8 +43,8 @@ pub fn starts_for(alloc: Global, starts: &Starts, path: &[char]) -> Result<Vec<u
         Starting starts.now path.now number) }
 {
     let mut found = Vec::new(alloc);
-    find_words(&starts.beginnings, path, &mut found)?;
+    find_prefixes(&starts.beginnings, path, &mut found)?;
     let back = backward(alloc, path)?;
-    find_words(&starts.endings, &back, &mut found)?;
+    find_prefixes(&starts.endings, &back, &mut found)?;
     Ok(found)
 }

@@ -1,21 +1,21 @@
-use crate::token::Class;
+use crate::token::CharacterClass;
 
-/// What is still to come of a glob, at an index of a path. The numbers are those of the states that
-/// come next, and at the end that of the glob.
+/// A state of a walk over a path: the rest of a glob. The numbers are those of the states that
+/// follow, and at the end that of the glob.
 #[derive(Drop)]
-pub enum State {
-    /// Nothing: the glob fits a path that ends here.
+pub enum GlobState {
+    /// Nothing is left: the glob fits a path that ends here.
     End(usize),
-    /// This character.
+    /// This character follows.
     Character(char, usize),
-    /// Any one character.
+    /// Any one character follows.
     AnyCharacter(usize),
-    /// One character of the class.
-    OneOf(Class, usize),
-    /// Any characters.
+    /// One character of the class follows.
+    OneOf(CharacterClass, usize),
+    /// Any characters follow.
     AnyText(usize),
-    /// What one of the two states stands for.
+    /// Either of the two states.
     Either(usize, usize),
-    /// What no path has.
+    /// Nothing fits.
     Never,
 }

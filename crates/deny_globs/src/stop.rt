@@ -1,6 +1,6 @@
-use deny_lists::NoMemory;
+use deny_base_lists::NoMemory;
 
-/// Why a pattern is not read on.
+/// Why the reading of a pattern stops.
 #[derive(Drop)]
 pub enum Stop {
     /// The character with this number is bad.

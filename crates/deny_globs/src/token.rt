@@ -1,6 +1,6 @@
-use deny_lists::List;
+use deny_base_lists::List;
 
-/// The characters from `first` to `last`, both taken in.
+/// The characters from `first` to `last`, both included.
 #[derive(Clone, Copy)]
 pub struct CharacterRange {
     pub first: char,
@@ -9,12 +9,12 @@ pub struct CharacterRange {
 
 /// A class `[..]`: the characters of its ranges, or all others where it is negated.
 #[derive(Drop)]
-pub struct Class {
+pub struct CharacterClass {
     pub negated: bool,
     pub ranges: List<CharacterRange>,
 }
 
-/// What a stretch of a glob stands for.
+/// A part of a glob.
 #[derive(Drop)]
 pub enum Token {
     /// This character.
@@ -22,7 +22,7 @@ pub enum Token {
     /// `?`: one character, a `/` too.
     AnyCharacter,
     /// `[..]`: one character of the class.
-    OneOf(Class),
+    OneOf(CharacterClass),
     /// `*`: any characters, `/` too.
     AnyText,
     /// `**/` at the start: nothing, or any characters that end in `/`.
@@ -31,6 +31,6 @@ pub enum Token {
     TrailingPath,
     /// `/**/`: a `/`, or any characters between two of them.
     MiddleFolders,
-    /// `{a,b}`: a text of one of them.
+    /// `{a,b}`: a text of one of the alternatives.
     Alternatives(List<List<Token>>),
 }

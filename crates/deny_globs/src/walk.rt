@@ -1,16 +1,16 @@
 ghost use Rattle.std.specs.Prelude.{ℕ, ◌≡◌, ◌<◌, ◌≤◌, ◌+◌, ◌*◌, [], length, OnOk};
-ghost use Rattle.std.specs.Prelude.{IfOk, true, Some, Contains, nat_eq, slice_get};
+ghost use Rattle.std.specs.Prelude.{true, Some, Contains, nat_eq, slice_get};
 ghost use Rattle.std.specs.List.{list_any};
 ghost use Rattle.deny_globs.specs.Class.{in_range, class_takes};
 ghost use Rattle.deny_globs.specs.Compiled.{IsProgram};
 ghost use Rattle.deny_globs.specs.private.States.{end_of, SomeLeads};
-ghost use Rattle.deny_globs.specs.declared.state.State.TheVariants.{End};
+ghost use Rattle.deny_globs.specs.declared.state.GlobState.TheVariants.{End};
 ghost use Rattle.deny_globs.specs.private.Walk.{first_passes, StepsOver, Passes, HasEnd, Notes};
 
-use crate::marked::Marked;
-use crate::state::State;
-use crate::token::{CharacterRange, Class};
-use deny_lists::{List, NoMemory, Steps};
+use crate::marked::MarkedStates;
+use crate::state::GlobState;
+use crate::token::{CharacterClass, CharacterRange};
+use deny_base_lists::{List, NoMemory, Steps};
 use std::alloc::Global;
 use std::sync::ledger::Ledger;
 
@@ -22,7 +22,7 @@ fn is_in_ranges(ranges: &[CharacterRange], character: char) -> bool
 }
 
 /// Whether the class takes the character.
-fn is_of_class(class: &Class, character: char) -> bool
+fn is_of_class(class: &CharacterClass, character: char) -> bool
     ensures { result ≡ class_takes class.now character }
 {
     let is_listed = is_in_ranges(class.ranges.as_slice(), character);
@@ -50,7 +50,7 @@ fn begins_with(rest: &[char], own: char) -> bool
 }
 
 /// Whether a character of the class comes next.
-fn begins_of_class(rest: &[char], class: &Class) -> bool
+fn begins_of_class(rest: &[char], class: &CharacterClass) -> bool
     ensures { result ≡ first_passes (class_takes class.now) rest.now }
 {
     match rest {
@@ -59,13 +59,14 @@ fn begins_of_class(rest: &[char], class: &Class) -> bool
     }
 }
 
-/// Marks what the state stands for at this index, and what is behind it at the next.
+/// Marks the states that follow the state: at this index without a character, and at the next with
+/// one.
 fn step_over<L: Ledger>(
-    states: &[State],
+    states: &[GlobState],
     rest: &[char],
     number: usize,
-    now: &mut Marked,
-    next: &mut Marked,
+    now: &mut MarkedStates,
+    next: &mut MarkedStates,
     steps: &mut Steps<L>,
 ) -> Result<(), NoMemory>
     requires program { IsProgram states.now }
@@ -84,28 +85,32 @@ fn step_over<L: Ledger>(
         ≡ steps.old + length now.new.0 + length next.new.0 }
 {
     match &states[number] {
-        State::End(_glob) => Ok(()),
-        State::Never => Ok(()),
-        State::Character(own, behind) => next.mark_if(begins_with(rest, *own), *behind, steps),
-        State::AnyCharacter(behind) => next.mark_if(has_next(rest), *behind, steps),
-        State::OneOf(class, behind) => next.mark_if(begins_of_class(rest, class), *behind, steps),
-        State::AnyText(behind) => {
+        GlobState::End(_glob) => Ok(()),
+        GlobState::Never => Ok(()),
+        GlobState::Character(own, behind) => next.mark_if(begins_with(rest, *own), *behind, steps),
+        GlobState::AnyCharacter(behind) => next.mark_if(has_next(rest), *behind, steps),
+        GlobState::OneOf(class, behind) => next.mark_if(
+            begins_of_class(rest, class),
+            *behind,
+            steps,
+        ),
+        GlobState::AnyText(behind) => {
             now.mark(*behind, steps)?;
             next.mark_if(has_next(rest), number, steps)
         }
-        State::Either(first, second) => {
+        GlobState::Either(first, second) => {
             now.mark(*first, steps)?;
             now.mark(*second, steps)
         }
     }
 }
 
-/// Goes over the states that are marked at an index, those too that come while it goes.
+/// Visits the states that are marked at an index, and those that are marked meanwhile.
 fn pass<L: Ledger>(
-    states: &[State],
+    states: &[GlobState],
     rest: &[char],
-    now: &mut Marked,
-    next: &mut Marked,
+    now: &mut MarkedStates,
+    next: &mut MarkedStates,
     steps: &mut Steps<L>,
 ) -> Result<(), NoMemory>
     requires program { IsProgram states.now }
@@ -133,7 +138,7 @@ fn pass<L: Ledger>(
 /// Marks the states at which globs start.
 fn mark_starts<L: Ledger>(
     starts: &[usize],
-    now: &mut Marked,
+    now: &mut MarkedStates,
     steps: &mut Steps<L>,
 ) -> Result<(), NoMemory>
     requires within { (number : ℕ) → Contains starts.now number → number < now.old.1 }
@@ -150,18 +155,18 @@ fn mark_starts<L: Ledger>(
     Ok(())
 }
 
-/// The glob whose end the state is.
-fn end_of(state: &State) -> Option<usize>
+/// The glob that ends at the state.
+fn end_of(state: &GlobState) -> Option<usize>
     ensures { result ≡ end_of state.now }
 {
     match state {
-        State::End(glob) => Some(*glob),
+        GlobState::End(glob) => Some(*glob),
         _ => None,
     }
 }
 
-/// Notes the glob whose end the state is.
-fn note_end(state: &State, fitting: &mut List<usize>) -> Result<(), NoMemory>
+/// Notes the glob that ends at the state.
+fn note_end(state: &GlobState, fitting: &mut List<usize>) -> Result<(), NoMemory>
     ensures { OnOk result (Notes (λ glob. end_of state.now ≡ Some glob) fitting.old fitting.new) }
 {
     match end_of(state) {
@@ -170,8 +175,12 @@ fn note_end(state: &State, fitting: &mut List<usize>) -> Result<(), NoMemory>
     }
 }
 
-/// The same, of the state with this number.
-fn note_end_at(states: &[State], number: usize, fitting: &mut List<usize>) -> Result<(), NoMemory>
+/// Notes the glob that ends at the state with this number.
+fn note_end_at(
+    states: &[GlobState],
+    number: usize,
+    fitting: &mut List<usize>,
+) -> Result<(), NoMemory>
     requires { number < length states.now }
     ensures { OnOk result (Notes (λ glob. slice_get states.now number ≡ Some (End glob)) fitting.old fitting.new) }
 {
@@ -179,7 +188,11 @@ fn note_end_at(states: &[State], number: usize, fitting: &mut List<usize>) -> Re
 }
 
 /// Notes the globs whose end is marked.
-fn note_ends(states: &[State], marked: &[usize], fitting: &mut List<usize>) -> Result<(), NoMemory>
+fn note_ends(
+    states: &[GlobState],
+    marked: &[usize],
+    fitting: &mut List<usize>,
+) -> Result<(), NoMemory>
     requires { (number : ℕ) → Contains marked.now number → number < length states.now }
     ensures { OnOk result (Notes (HasEnd states.now marked.now) fitting.old fitting.new) }
 {
@@ -192,7 +205,7 @@ fn note_ends(states: &[State], marked: &[usize], fitting: &mut List<usize>) -> R
 /// Walks once over the path with all globs that start at these states, and notes those that fit.
 pub fn walk<L: Ledger>(
     alloc: Global,
-    states: &[State],
+    states: &[GlobState],
     starts: &[usize],
     path: &[char],
     fitting: &mut List<usize>,
@@ -207,8 +220,8 @@ pub fn walk<L: Ledger>(
     if starts.is_empty() {
         return Ok(());
     }
-    let mut now = Marked::new(alloc, states.len())?;
-    let mut next = Marked::new(alloc, states.len())?;
+    let mut now = MarkedStates::new(alloc, states.len())?;
+    let mut next = MarkedStates::new(alloc, states.len())?;
     mark_starts(starts, &mut now, steps)?;
     for index in 0..path.len() {
         if now.is_empty() {

@@ -1,4 +1,4 @@
--- Runs in a list that ascends by two numbers.
+-- Slices of a list that ascends by two numbers.
 use Rattle.std.proofs.Common.{◌≡◌, ◌<◌, ◌≤◌, ◌+◌, ◌-◌, ◌∙◌, ◌⊎◌, ℕ, zero, suc, inl, inr, List, [], ◌∷◌, Bool, true}
 use Rattle.std.proofs.Common.{false, length, drop, take, refl, sym, ap, subst, arith}
 use Rattle.std.specs.Prelude.{◌==◌, ◌&&◌, filter, nat_lt, not, slice_index_or}
@@ -11,14 +11,14 @@ use Rattle.std.proofs.Math.Seq.{take-nil, drop-nil}
 use Rattle.std.proofs.lemmas.Bool.{and_from, and_parts, cases_eq, cases_lt, eq-eqb, eqb-true, lt-ltb, ltb-true}
 use Rattle.std.proofs.lemmas.Bool.{or_cases, or_left, or_right}
 use Rattle.std.proofs.lemmas.Option.{slice_get-get_or}
-use Rattle.deny_lists.proofs.Orders.{below_or_tie}
-use Rattle.deny_lists.proofs.Sorted.{ascends_at}
-use Rattle.deny_lists.proofs.Numbers.{less_from_nat_cmp}
+use Rattle.deny_base_lists.proofs.Orders.{below_or_tie}
+use Rattle.deny_base_lists.proofs.Sorted.{ascends_at}
+use Rattle.deny_base_lists.proofs.Numbers.{less_from_nat_cmp}
 use Rattle.deny_krates.specs.private.Resolved.{is_before}
 
 -- where the items before s, and those at s and the n after it, are parted by two tests, the latter are those that pass
 -- the second test and not the first
-pub between_run : {A : Type 0} (p q : A → Bool) (xs : List A) (s n : ℕ) → s + n ≤ length xs
+between_run : {A : Type 0} (p q : A → Bool) (xs : List A) (s n : ℕ) → s + n ≤ length xs
     → ((k : ℕ) (d : A) → k < s → p (slice_index_or xs k d) ≡ true)
     → ((k : ℕ) (d : A) → s ≤ k → k < length xs → p (slice_index_or xs k d) ≡ false)
     → ((k : ℕ) (d : A) → k < s + n → q (slice_index_or xs k d) ≡ true)
@@ -43,7 +43,7 @@ between_run p q (x ∷ xs) (suc s) n room below from upto above =
     (λ i d a b. above (suc i) d (omega (arith, a)) (omega (arith, b))))
 
 -- the second point does not come before the first, where the first test implies the second
-pub between_upward : {A : Type 0} (p q : A → Bool) (xs : List A) (s e : ℕ) → ((x : A) → p x ≡ true → q x ≡ true)
+between_upward : {A : Type 0} (p q : A → Bool) (xs : List A) (s e : ℕ) → ((x : A) → p x ≡ true → q x ≡ true)
     → s ≤ length xs → ((k : ℕ) (d : A) → k < s → p (slice_index_or xs k d) ≡ true)
     → ((k : ℕ) (d : A) → e ≤ k → k < length xs → q (slice_index_or xs k d) ≡ false) → s ≤ e
 between_upward p q [] s e implies room below above = omega (arith, room)
@@ -56,7 +56,7 @@ between_upward p q (x ∷ xs) s e implies room below above = elim (cases_lt e s)
     true-false : true ≡ false → ⊥
     true-false e = absurd (cc)
 
--- two numbers before two others
+-- a pair of numbers before another
 pub from_before : (a b c d : ℕ) → is_before a b c d ≡ true → (a < c) ⊎ ((a ≡ c) × (b < d))
 unfolding is_before
 from_before a b c d is = elim (or_cases (nat_lt a c) ((a == c) && nat_lt b d) is) as
@@ -81,13 +81,13 @@ before_later a b c d e up is = elim (from_before a b c d is) as (λ _. is_before
 tie_is : (a b : ℕ) → nat_cmp a b ≡ Equal → a ≡ b
 tie_is a b tie = nat_cmp-IsAntisymmetric a b tie
 
--- the second of two in order
+-- where the first of two orders ties, the second decides
 after_tie : (o p : Ordering) → ordering_then o p ≡ Less → o ≡ Equal → p ≡ Less
 after_tie Less p is tie = cc
 after_tie Equal p is tie = is
 after_tie Greater p is tie = cc
 
--- what comes before two numbers does so with all that come before it
+-- the items before a pair of numbers are a prefix of the list
 pub partitioned_before : {A : Type 0} (one two : A → ℕ) (rest : A → A → Ordering) (xs : List A) (a b : ℕ)
     → IsStrictlySortedBy (then_cmp (on one nat_cmp) (then_cmp (on two nat_cmp) rest)) xs
     → IsPartitionedBy (λ x. is_before (one x) (two x) a b) xs
@@ -125,7 +125,7 @@ partitioned_before {A} one two rest xs a b up i j d below inside holds = elim (c
       ]
     ]
 
--- what stands between two points
+-- the items between two partition points
 pub run_between : {A : Type 0} (p q : A → Bool) (xs : List A) (s e : ℕ) → ((x : A) → p x ≡ true → q x ≡ true)
     → s ≤ length xs → e ≤ length xs
     → IsPartitionPoint (λ x. p x ≡ true) (λ x. p x ≡ false) xs s

@@ -1,88 +1,22 @@
--- The declarations that resolve: as they are gathered, and those of two crates.
-use Rattle.std.proofs.Common.{◌≡◌, ◌<◌, ◌≤◌, ◌+◌, ◌++◌, ◌∙◌, ◌⊎◌, ℕ, zero, suc, inl, inr, List, [], ◌∷◌, Bool, true}
-use Rattle.std.proofs.Common.{false, Option, Some, None, length, drop, map, refl, sym, ap, subst, arith, add-one}
-use Rattle.std.proofs.Common.{add-zero, append-nil}
-use Rattle.std.specs.Prelude.{◌&&◌, Contains, filter, not, option_map, slice_get, slice_index_or}
+-- The declarations that resolve, and those of one crate that resolve to another.
+use Rattle.std.proofs.Common.{◌≡◌, ◌<◌, ◌+◌, ◌∙◌, ◌⊎◌, ℕ, zero, suc, inl, inr, List, [], ◌∷◌, Bool, true}
+use Rattle.std.proofs.Common.{false, Option, Some, None, refl, sym, ap, subst, arith}
+use Rattle.std.proofs.Common.{add-zero}
+use Rattle.std.specs.Prelude.{◌&&◌, Contains, filter, not, option_map, slice_get}
 use Rattle.std.specs.List.{cons_option}
 use Rattle.std.specs.Option.{option_and_then}
-use Rattle.std.proofs.Math.ListN.{drop_of_length-le}
-use Rattle.std.proofs.Math.Seq.{drop-cons}
 use Rattle.std.proofs.lemmas.Bool.{and_from, and_parts, cases_lt, false_from_ne_true, not_from_false}
 use Rattle.std.proofs.lemmas.Option.{none-some, same_Some}
-use Rattle.deny_lists.proofs.Loops.{appended}
-use Rattle.deny_lists.proofs.Members.{Contains-by_cases, Contains-filter, Contains-first, Contains-flat_map}
-use Rattle.deny_lists.proofs.Members.{Contains-from_filter, Contains-from_flat_map, Contains-rest, from_there}
-use Rattle.deny_lists.proofs.Members.{no_member, there}
-use Rattle.deny_crate_graph.specs.Crates.{crates_from, dependency_view}
+use Rattle.deny_base_lists.proofs.Members.{Contains-by_cases, Contains-filter, Contains-first, Contains-flat_map}
+use Rattle.deny_base_lists.proofs.Members.{Contains-from_filter, Contains-from_flat_map, Contains-rest, from_there}
+use Rattle.deny_base_lists.proofs.Members.{no_member, there}
 use Rattle.deny_krates.specs.private.Resolved.{AreBetween, AreResolved, IsResolvedAt, is_before, resolved_from}
 use Rattle.deny_krates.specs.private.Resolved.{resolved_in, resolved_to}
-use Rattle.deny_crate_graph.specs.declared.krate.Dependency.{Dependency as Declared}
-use Rattle.deny_crate_graph.specs.declared.krate.Krate.{Krate}
 use Rattle.deny_krates.specs.declared.resolved.ResolvedAt.{ResolvedAt}
 use Rattle.deny_krates.proofs.BeforeLemmas.{from_before, to_before}
-use Rattle.deny_krates.proofs.NumberLemmas.{ArePlaced, next_crate}
-use Rattle.deny_model.specs.Graph.{Crate, Dependency, Graph}
-use Rattle.deny_model.specs.Resolution.{declaration_at, resolution}
-
--- ---- gathered
-
-resolved_next : (g : Graph) (parent i : ℕ) (ds : List Declared) (d : Declared) → i < length ds
-    → d ≡ slice_index_or ds i d
-    → resolved_from g parent i (map dependency_view (drop i ds))
-    ≡ cons_option (option_map (resolved_to parent i) (resolution g parent (dependency_view d)))
-    (resolved_from g parent (i + 1) (map dependency_view (drop (i + 1) ds)))
-resolved_next g parent i ds d inside is = rw (drop-cons ds i d inside, ← is, add-one) refl
-
-pub resolved_some : (g : Graph) (parent i child : ℕ) (ds : List Declared) (d : Declared)
-    (old new whole : List ResolvedAt)
-    → i < length ds → d ≡ slice_index_or ds i d → Some child ≡ resolution g parent (dependency_view d)
-    → new ≡ old ++ resolved_to parent i child ∷ []
-    → old ++ resolved_from g parent i (map dependency_view (drop i ds)) ≡ whole
-    → new ++ resolved_from g parent (i + 1) (map dependency_view (drop (i + 1) ds)) ≡ whole
-resolved_some g parent i child ds d old new whole inside is found pushed so =
-    let rest = resolved_from g parent (i + 1) (map dependency_view (drop (i + 1) ds)) in
-    let next : resolved_from g parent i (map dependency_view (drop i ds)) ≡ resolved_to parent i child ∷ rest =
-    resolved_next g parent i ds d inside is
-    ∙ ap (λ o. cons_option (option_map (resolved_to parent i) o) rest) (sym found) in
-    ap (λ rs. rs ++ rest) pushed
-    ∙ (after old (resolved_to parent i child) rest ∙ (ap (λ rs. old ++ rs) (sym next) ∙ so))
-  where
-    after : (xs : List ResolvedAt) (x : ResolvedAt) (ys : List ResolvedAt) → (xs ++ x ∷ []) ++ ys ≡ xs ++ x ∷ ys
-    after [] x ys = refl
-    after (y ∷ xs) x ys = ap (λ zs. y ∷ zs) (after xs x ys)
-
-pub resolved_none : (g : Graph) (parent i : ℕ) (ds : List Declared) (d : Declared) (old new whole : List ResolvedAt)
-    → i < length ds → d ≡ slice_index_or ds i d → None ≡ resolution g parent (dependency_view d) → new ≡ old
-    → old ++ resolved_from g parent i (map dependency_view (drop i ds)) ≡ whole
-    → new ++ resolved_from g parent (i + 1) (map dependency_view (drop (i + 1) ds)) ≡ whole
-resolved_none g parent i ds d old new whole inside is none same so =
-    let rest = resolved_from g parent (i + 1) (map dependency_view (drop (i + 1) ds)) in
-    let next : resolved_from g parent i (map dependency_view (drop i ds)) ≡ rest =
-    resolved_next g parent i ds d inside is
-    ∙ ap (λ o. cons_option (option_map (resolved_to parent i) o) rest) (sym none) in
-    ap (λ rs. rs ++ rest) same ∙ (ap (λ rs. old ++ rs) (sym next) ∙ so)
-
-pub resolved_done : (g : Graph) (parent i : ℕ) (ds : List Declared) (new whole : List ResolvedAt) → length ds ≤ i
-    → new ++ resolved_from g parent i (map dependency_view (drop i ds)) ≡ whole → new ≡ whole
-resolved_done g parent i ds new whole past so =
-    sym (append-nil new)
-    ∙ (ap (λ (xs : List Declared). new ++ resolved_from g parent i (map dependency_view xs))
-    (sym (drop_of_length-le ds past)) ∙ so)
-
-pub gathered_more : (g : Graph) (ks : List Krate) (i : ℕ) (k : Krate) (old new whole : List ResolvedAt) → i < length ks
-    → k ≡ slice_index_or ks i k → new ≡ old ++ resolved_from g i 0 (map dependency_view k.deps)
-    → old ++ resolved_in g (crates_from i (drop i ks)) ≡ whole
-    → new ++ resolved_in g (crates_from (i + 1) (drop (i + 1) ks)) ≡ whole
-gathered_more g ks i k old new whole inside is added =
-    appended (λ cs. resolved_in g cs) (crates_from i (drop i ks)) (crates_from (i + 1) (drop (i + 1) ks))
-    (resolved_from g i 0 (map dependency_view k.deps)) old new whole
-    (ap (resolved_in g) (next_crate ks i k inside is)) added
-
-pub gathered_done : (g : Graph) (ks : List Krate) (i : ℕ) (new whole : List ResolvedAt) → length ks ≤ i
-    → new ++ resolved_in g (crates_from i (drop i ks)) ≡ whole → new ≡ whole
-gathered_done g ks i new whole past so =
-    sym (append-nil new)
-    ∙ (ap (λ (xs : List Krate). new ++ resolved_in g (crates_from i xs)) (sym (drop_of_length-le ks past)) ∙ so)
+use Rattle.deny_krates.proofs.NumberLemmas.{HavePlaces}
+use Rattle.deny_spec.specs.Graph.{Crate, Dependency, Graph}
+use Rattle.deny_spec.specs.Resolution.{declaration_at, resolution}
 
 -- ---- which declarations they are
 
@@ -98,7 +32,7 @@ from_resolved : (g : Graph) (parent first : ℕ) (ds : List Dependency) (r : Res
     → Contains (resolved_from g parent first ds) r → IsFrom g parent first ds r
 from_resolved g parent first [] r is = absurd (no_member r is)
 from_resolved g parent first (d ∷ ds) r is =
-    by_answer (resolution g parent d) refl (λ stands. from_resolved g parent (first + 1) ds r stands) is
+    by_answer (resolution g parent d) refl (λ holds. from_resolved g parent (first + 1) ds r holds) is
   where
     later : IsFrom g parent (first + 1) ds r → IsFrom g parent first (d ∷ ds) r
     later rest = record {
@@ -114,9 +48,9 @@ from_resolved g parent first (d ∷ ds) r is =
         → (Contains (resolved_from g parent (first + 1) ds) r → IsFrom g parent (first + 1) ds r)
         → Contains (cons_option (option_map (resolved_to parent first) o) (resolved_from g parent (first + 1) ds)) r
         → IsFrom g parent first (d ∷ ds) r
-    by_answer None answer rest stands = later (rest stands)
-    by_answer (Some child) answer rest stands =
-        Contains-by_cases (resolved_to parent first child) (resolved_from g parent (first + 1) ds) r stands
+    by_answer None answer rest holds = later (rest holds)
+    by_answer (Some child) answer rest holds =
+        Contains-by_cases (resolved_to parent first child) (resolved_from g parent (first + 1) ds) r holds
         (λ same. record {
           at = 0;
           declaration = d;
@@ -148,11 +82,11 @@ to_resolved g parent first (x ∷ ds) (suc n) child d at resolves =
     behind : (o : Option ResolvedAt)
         → Contains (resolved_from g parent (first + 1) ds) (resolved_to parent ((first + 1) + n) child)
         → Contains (cons_option o (resolved_from g parent (first + 1) ds)) (resolved_to parent ((first + 1) + n) child)
-    behind None stands = stands
-    behind (Some r) stands = Contains-rest r (resolved_from g parent (first + 1) ds)
-        (resolved_to parent ((first + 1) + n) child) stands
+    behind None holds = holds
+    behind (Some r) holds = Contains-rest r (resolved_from g parent (first + 1) ds)
+        (resolved_to parent ((first + 1) + n) child) holds
 
-module _ (g : Graph) (placed : ArePlaced g) where
+module _ (g : Graph) (placed : HavePlaces g) where
   resolved_sound : (r : ResolvedAt) → Contains (resolved_in g g.crates) r → IsResolvedAt g r
   resolved_sound r is =
       let of = Contains-from_flat_map (λ (c : Crate). resolved_from g c.place 0 c.deps) g.crates r is in
@@ -192,7 +126,7 @@ module _ (g : Graph) (placed : ArePlaced g) where
       by_crate None at resolves = absurd (none-some child resolves)
       by_crate (Some c) at resolves = by_declaration c at (slice_get c.deps index) refl resolves
 
-  -- those between a child and a parent
+  -- the resolved declarations of a parent and a child
   pub between_are : (rs : List ResolvedAt) (child parent : ℕ) → AreResolved g rs
       → AreBetween g child parent (filter (λ r. not (is_before r.child r.parent child parent)
       && is_before r.child r.parent child (parent + 1)) rs)

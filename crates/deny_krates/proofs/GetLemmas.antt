@@ -1,11 +1,11 @@
--- What `get` answers.
+-- The result of `get`.
 use Rattle.std.proofs.Common.{◌≡◌, ◌<◌, ◌≤◌, ℕ, List, Option, Some, None, length, sym, ap, ◌∙◌}
 use Rattle.std.specs.Prelude.{MatchOption, option_copied, slice_get}
 use Rattle.std.specs.Borrow.{Bor}
 use Rattle.std.specs.List.{HoldsAt}
 use Rattle.std.proofs.lemmas.Option.{slice_get_past, slice_get-get_or}
 
--- what `get` gives
+-- the result of `get` is the item at the index
 pub got : {A : Type 0} (xs : List A) (n : ℕ) (r : Option (Bor A))
     → MatchOption r (length xs ≤ n) (λ x. (n < length xs) × HoldsAt (λ y. x.now ≡ y) xs n)
     → option_copied r ≡ slice_get xs n

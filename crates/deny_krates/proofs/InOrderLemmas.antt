@@ -8,10 +8,10 @@ use Rattle.std.specs.List.Sorted.{IsStrictlySortedBy}
 use Rattle.std.specs.Ordering.{ordering_reverse}
 use Rattle.std.specs.declared.cmp.Ordering.{Ordering}
 use Rattle.std.specs.declared.cmp.Ordering.TheVariants.{Less, Equal, Greater}
-use Rattle.deny_lists.specs.Ascending.{Lists}
-use Rattle.deny_lists.proofs.Each.{all_weaker}
-use Rattle.deny_lists.proofs.Members.{Contains-by_cases, Contains-first, Contains-rest}
-use Rattle.deny_lists.proofs.Sorted.{one_list}
+use Rattle.deny_base_lists.specs.Ascending.{Lists}
+use Rattle.deny_base_lists.proofs.Each.{all_weaker}
+use Rattle.deny_base_lists.proofs.Members.{Contains-by_cases, Contains-first, Contains-rest}
+use Rattle.deny_base_lists.proofs.Sorted.{one_list}
 use Rattle.deny_krates.specs.InOrder.{in_order, placed, put_into}
 
 module _ {T : Type 0} (cmp : T → T → Ordering) (total : IsTotalOrder cmp) (exact : IsAntisymmetric cmp) where
@@ -43,16 +43,16 @@ module _ {T : Type 0} (cmp : T → T → Ordering) (total : IsTotalOrder cmp) (e
       )
 
   put_whole : (x : T) (ys : List T) (z : T) → Contains (x ∷ ys) z → Contains (put_into cmp x ys) z
-  put_whole x [] z stands = stands
-  put_whole x (y ∷ ys) z stands = by_order (cmp x y) refl (put_whole x ys z)
+  put_whole x [] z holds = holds
+  put_whole x (y ∷ ys) z holds = by_order (cmp x y) refl (put_whole x ys z)
     where
       by_order : (o : Ordering) → cmp x y ≡ o → (Contains (x ∷ ys) z → Contains (put_into cmp x ys) z)
           → Contains (placed o x y ys (put_into cmp x ys)) z
-      by_order Less is rest = stands
-      by_order Equal is rest = Contains-by_cases x (y ∷ ys) z stands
+      by_order Less is rest = holds
+      by_order Equal is rest = Contains-by_cases x (y ∷ ys) z holds
           (λ same. subst (λ w. Contains (y ∷ ys) w) (sym (exact x y is) ∙ same) (Contains-first y ys))
           (λ later. later)
-      by_order Greater is rest = Contains-by_cases x (y ∷ ys) z stands
+      by_order Greater is rest = Contains-by_cases x (y ∷ ys) z holds
           (λ same. Contains-rest y (put_into cmp x ys) z (rest (subst (λ w. Contains (x ∷ ys) w) same
           (Contains-first x ys))))
           (λ later. Contains-by_cases y ys z later
@@ -60,8 +60,8 @@ module _ {T : Type 0} (cmp : T → T → Ordering) (total : IsTotalOrder cmp) (e
           (λ after. Contains-rest y (put_into cmp x ys) z (rest (Contains-rest x ys z after))))
 
   put_sound : (x : T) (ys : List T) (z : T) → Contains (put_into cmp x ys) z → Contains (x ∷ ys) z
-  put_sound x [] z stands = stands
-  put_sound x (y ∷ ys) z stands = by_order (cmp x y) (put_sound x ys z) stands
+  put_sound x [] z holds = holds
+  put_sound x (y ∷ ys) z holds = by_order (cmp x y) (put_sound x ys z) holds
     where
       by_order : (o : Ordering) → (Contains (put_into cmp x ys) z → Contains (x ∷ ys) z)
           → Contains (placed o x y ys (put_into cmp x ys)) z → Contains (x ∷ y ∷ ys) z

@@ -1,4 +1,4 @@
--- What leads from one node to another: lists of features, and declarations.
+-- How lists of features and declarations lead from one node to another.
 use Rattle.std.proofs.Common.{◌≡◌, ◌<◌, ◌≤◌, ◌+◌, ◌++◌, ◌∙◌, ℕ, inl, inr, List, [], ◌∷◌, Bool, true, false, get_or}
 use Rattle.std.proofs.Common.{length, drop, refl, sym, ap, arith}
 use Rattle.std.specs.Prelude.{◌==◌, ◌&&◌, ◌||◌, cond, slice_get, slice_index_or}
@@ -7,19 +7,19 @@ use Rattle.std.specs.List.{after_first, before_first, list_any, position_or_len}
 use Rattle.std.specs.Ordering.{nat_cmp}
 use Rattle.std.specs.declared.cmp.Ordering.TheVariants.{Less, Equal, Greater}
 use Rattle.std.proofs.lemmas.Bool.{cases_lt, false_from_ne_true}
-use Rattle.std.proofs.lemmas.List.{at_drop_all, at_drop_more}
+use Rattle.std.proofs.lemmas.List.{at_drop_more}
 use Rattle.std.proofs.lemmas.List.Folds.{list_any-append}
 use Rattle.std.proofs.lemmas.Option.{slice_get-get_or}
 use Rattle.std.proofs.lemmas.Slice.Eq.{bytes_eq-Decides}
-use Rattle.deny_lists.proofs.Booleans.{tests_agree, or-false}
-use Rattle.deny_lists.proofs.Members.{any_from, any_passes, from_there}
-use Rattle.deny_lists.proofs.Orders.{not_below_itself, text_cmp-exact}
+use Rattle.deny_base_lists.proofs.Booleans.{tests_agree, or-false}
+use Rattle.deny_base_lists.proofs.Members.{any_from, any_passes, from_there}
+use Rattle.deny_base_lists.proofs.Orders.{not_below_itself, text_cmp-exact}
 use Rattle.deny_krates.specs.Nodes.{asked, default_feature, is_called, is_slash, leads_over}
-use Rattle.deny_crate_graph.proofs.SearchLemmas.{not_above_itself}
-use Rattle.deny_model.specs.Graph.{Dependency}
-use Rattle.deny_model.specs.Text.{same_text}
+use Rattle.deny_krates_graph.proofs.SearchLemmas.{not_above_itself}
+use Rattle.deny_spec.specs.Graph.{Dependency}
+use Rattle.deny_spec.specs.Text.{same_text}
 
--- ---- a text in a list that ascends
+-- ---- a text in an ascending list
 
 pub text_found : (texts : List (List ℕ)) (text : List ℕ) (at : ℕ) (d : List ℕ) → at < length texts
     → slice_cmp nat_cmp (slice_index_or texts at d) text ≡ Equal → slice_get texts at ≡ slice_get (text ∷ []) 0
@@ -47,7 +47,7 @@ pub text_there : (texts : List (List ℕ)) (text : List ℕ) (at : ℕ) → slic
 text_there texts text at here = sym (any_from (same_text text) texts text (from_there texts at text here)
     ((bytes_eq-Decides text text).1 refl))
 
--- ---- a loop that asks whether any passes
+-- ---- a loop that tests whether any item passes
 
 pub any_stopped : {X : Type 0} (p : X → Bool) (xs : List X) (x : X) (i : ℕ) → i < length xs → x ≡ get_or xs i x
     → p x ≡ true → list_any p (drop i xs) ≡ list_any p xs → true ≡ list_any p xs
@@ -62,11 +62,7 @@ any_more p xs x i inside is fails so =
     sym (at_drop_more (list_any p) xs i x inside
     ∙ (ap (λ y. p y || list_any p (drop (i + 1) xs)) (sym is) ∙ ap (λ b. b || list_any p (drop (i + 1) xs)) fails)) ∙ so
 
-pub any_none : {X : Type 0} (p : X → Bool) (xs : List X) (i : ℕ) → length xs ≤ i
-    → list_any p (drop i xs) ≡ list_any p xs → false ≡ list_any p xs
-any_none p xs i past so = sym (at_drop_all (list_any p) xs i past) ∙ so
-
--- ---- what a declaration asks for
+-- ---- the features that a declaration asks for
 
 pub any_asked : (test : List ℕ → Bool) (d : Dependency)
     → list_any test (asked d) ≡ (list_any test d.features || (d.uses_default_features && test default_feature))
@@ -81,7 +77,7 @@ any_asked test d = by_default d.uses_default_features
 
 -- ---- an entry with a slash
 
-pub some_slash : {X : Type 0} (p : X → Bool) (xs : List X) → position_or_len p xs < length xs → list_any p xs ≡ true
+some_slash : {X : Type 0} (p : X → Bool) (xs : List X) → position_or_len p xs < length xs → list_any p xs ≡ true
 some_slash p [] some = absurd (omega (arith, some))
 some_slash p (x ∷ xs) some = by_test (p x) refl (some_slash p xs)
   where
@@ -90,7 +86,7 @@ some_slash p (x ∷ xs) some = by_test (p x) refl (some_slash p xs)
     by_test true is rest = refl
     by_test false is rest = let later = rw is at some in rest (omega (arith, later))
 
-pub no_slash : {X : Type 0} (p : X → Bool) (xs : List X) → position_or_len p xs ≡ length xs → list_any p xs ≡ false
+no_slash : {X : Type 0} (p : X → Bool) (xs : List X) → position_or_len p xs ≡ length xs → list_any p xs ≡ false
 no_slash p [] none = refl
 no_slash p (x ∷ xs) none = by_test (p x) refl (no_slash p xs)
   where

@@ -1,10 +1,10 @@
-pub use Rattle.deny_crate_graph.proofs.CratesLemmas
-pub use Rattle.deny_crate_graph.proofs.DependentsLemmas
-pub use Rattle.deny_crate_graph.proofs.GraphLemmas
-pub use Rattle.deny_crate_graph.proofs.OrderLemmas
-pub use Rattle.deny_crate_graph.proofs.OrderlyLemmas
-pub use Rattle.deny_crate_graph.proofs.ResolvedLemmas
-pub use Rattle.deny_crate_graph.proofs.SearchLemmas
+pub use Rattle.deny_krates_graph.proofs.CratesLemmas
+pub use Rattle.deny_krates_graph.proofs.DependentsLemmas
+pub use Rattle.deny_krates_graph.proofs.GraphLemmas
+pub use Rattle.deny_krates_graph.proofs.OrderLemmas
+pub use Rattle.deny_krates_graph.proofs.OrderlyLemmas
+pub use Rattle.deny_krates_graph.proofs.ResolvedLemmas
+pub use Rattle.deny_krates_graph.proofs.SearchLemmas
 pub mod BeforeLemmas
 pub mod DeclaredLemmas
 pub mod GetLemmas

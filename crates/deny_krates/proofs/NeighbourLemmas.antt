@@ -1,4 +1,4 @@
--- The direct dependencies of a crate are what its edges lead to.
+-- The direct dependencies of a crate are the crates that its edges lead to.
 use Rattle.std.proofs.Common.{◌≡◌, ◌<◌, ◌≤◌, ℕ, List, [], Option, true, length, map, refl, sym, ap, ◌∙◌, subst, arith}
 use Rattle.std.specs.Prelude.{◌↔◌, All, Contains}
 use Rattle.std.specs.Cmp.Lexicographic.{nat_list_cmp_total, slice_cmp}
@@ -10,28 +10,29 @@ use Rattle.std.proofs.lemmas.Bool.{and_parts, eq-eqb, eqb-true}
 use Rattle.std.proofs.lemmas.List.{length-map}
 use Rattle.std.proofs.lemmas.List.Elements.{All-contains}
 use Rattle.deny_base.specs.declared.edge.Edge.{Edge}
-use Rattle.deny_crate_graph.specs.Dependents.{AreDirectDependencies, by_id, id_at}
-use Rattle.deny_crate_graph.specs.Orderly.{IsOrderly}
-use Rattle.deny_crate_graph.specs.declared.krate.DirectDependent.{DirectDependent}
-use Rattle.deny_lists.proofs.Members.{Contains-filter, Contains-from_filter, Contains-from_map, any_from, any_passes}
-use Rattle.deny_lists.proofs.Members.{contains_map, from_there}
-use Rattle.deny_lists.proofs.Sorted.{ascends_map, length-ascending}
-use Rattle.deny_lists.specs.Walk as walk
-use Rattle.deny_model.specs.Graph.{Crate, Graph, dependencies, leads, dependents}
+use Rattle.deny_krates_graph.specs.Dependents.{AreDirectDependencies, by_id, id_at}
+use Rattle.deny_krates_graph.specs.Orderly.{IsOrderly}
+use Rattle.deny_krates_graph.specs.declared.krate.DirectDependent.{DirectDependent}
+use Rattle.deny_base_lists.proofs.Members.{Contains-filter, Contains-from_filter, Contains-from_map, any_from}
+use Rattle.deny_base_lists.proofs.Members.{any_passes}
+use Rattle.deny_base_lists.proofs.Members.{contains_map, from_there}
+use Rattle.deny_base_lists.proofs.Sorted.{ascends_map, length-ascending}
+use Rattle.deny_base_lists.specs.Walk as walk
+use Rattle.deny_spec.specs.Graph.{Crate, Graph, dependencies, leads, dependents}
 use Rattle.deny_krates.specs.Steps.{HasEdge}
 use Rattle.deny_krates.specs.Placed.{ArePlaced}
-use Rattle.deny_krates.proofs.PlaceLemmas.{place_of, stands_at}
+use Rattle.deny_krates.proofs.PlaceLemmas.{place_of, holds_at}
 
 -- an edge joins crates of the graph
-pub parent_stands : (g : Graph) → IsOrderly g → (e : Edge) → Contains g.edges e → e.parent < length g.crates
-parent_stands g orderly e stands = All-contains (λ d. d.parent < length g.crates) g.edges e orderly.parents stands
+pub parent_holds : (g : Graph) → IsOrderly g → (e : Edge) → Contains g.edges e → e.parent < length g.crates
+parent_holds g orderly e holds = All-contains (λ d. d.parent < length g.crates) g.edges e orderly.parents holds
 
-pub child_stands : (g : Graph) → IsOrderly g → (e : Edge) → Contains g.edges e → e.child < length g.crates
-child_stands g orderly e stands = All-contains (λ d. d.child < length g.crates) g.edges e orderly.children stands
+pub child_holds : (g : Graph) → IsOrderly g → (e : Edge) → Contains g.edges e → e.child < length g.crates
+child_holds g orderly e holds = All-contains (λ d. d.child < length g.crates) g.edges e orderly.children holds
 
 pub edges_stay : (g : Graph) → IsOrderly g → walk.StaysBelow (HasEdge g) (length g.crates)
 edges_stay g orderly a b below edge =
-    subst (λ (n : ℕ). n < length g.crates) edge.3 (child_stands g orderly edge.0 edge.1)
+    subst (λ (n : ℕ). n < length g.crates) edge.3 (child_holds g orderly edge.0 edge.1)
 
 -- ---- whether an edge leads from one place to another
 
@@ -54,7 +55,7 @@ found_edge g parent child edge =
 
 module _ (g : Graph) (placed : ArePlaced g.crates) (Joined : ℕ → Type 0) (crates : List Crate)
     (ds : List DirectDependent)
-    (stands : (c : Crate) → Contains crates c → Contains g.crates c)
+    (holds : (c : Crate) → Contains crates c → Contains g.crates c)
     (joined : (c : Crate) → Contains crates c → Joined c.place)
     (kept : (c : Crate) → Contains g.crates c → Joined c.place → Contains crates c)
     (within : (n : ℕ) → Joined n → n < length g.crates)
@@ -74,7 +75,7 @@ module _ (g : Graph) (placed : ArePlaced g.crates) (Joined : ℕ → Type 0) (cr
 
   of_joined : (n : ℕ) → Joined n → Contains (map (λ (d : DirectDependent). d.place) ds) n
   of_joined n is =
-      let c = stands_at g.crates placed n (within n is) in
+      let c = holds_at g.crates placed n (within n is) in
       let member = kept c.0 (from_there g.crates n c.0 c.1) (subst Joined (sym c.2) is) in
       let listed = All-contains (λ (c : Crate). Contains (map
       (λ (d : DirectDependent). d.place) ds) c.place) crates c.0 whole member in
@@ -83,14 +84,14 @@ module _ (g : Graph) (placed : ArePlaced g.crates) (Joined : ℕ → Type 0) (cr
   pub each_joined : (n : ℕ) → Joined n ↔ Contains (map (λ (d : DirectDependent). d.place) ds) n
   each_joined n = (of_joined n, joined_of n)
 
-  -- no two neighbours have one id, so that there are no more of them than crates that are joined
+  -- no two neighbours share an id, so that there are no more neighbours than crates that are joined
   id_listed : (id : List ℕ) → Contains (map (λ (d : DirectDependent). id_at g d.place) ds) id
       → Contains (map (λ (c : Crate). c.id) crates) id
   id_listed id is =
       let d = Contains-from_map (λ (d : DirectDependent). id_at g d.place) ds id is in
       let c = crate_of d.from d.member in
       let here : id_at g c.0.place ≡ c.0.id = ap (λ (o : Option Crate). option_map_or (λ c. c.id) o []) (placed.at c.0
-      (stands c.0 c.1)) in
+      (holds c.0 c.1)) in
       subst (λ (i : List ℕ). Contains (map (λ (c : Crate). c.id) crates) i) (sym here ∙ (ap (id_at g) c.2 ∙ d.is))
       (contains_map (λ (c : Crate). c.id) crates c.0 c.1)
 
@@ -104,12 +105,12 @@ module _ (g : Graph) (placed : ArePlaced g.crates) (Joined : ℕ → Type 0) (cr
 
 module _ (g : Graph) (placed : ArePlaced g.crates) (orderly : IsOrderly g) (place : ℕ) (ds : List DirectDependent) where
   needed_within : (n : ℕ) → HasEdge g place n → n < length g.crates
-  needed_within n edge = subst (λ (m : ℕ). m < length g.crates) edge.3 (child_stands g orderly edge.0 edge.1)
+  needed_within n edge = subst (λ (m : ℕ). m < length g.crates) edge.3 (child_holds g orderly edge.0 edge.1)
 
   module _ (are : AreDirectDependencies g place ds) where
-    needed_stands : (c : Crate) → Contains (dependencies g place) c → Contains g.crates c
+    needed_holds : (c : Crate) → Contains (dependencies g place) c → Contains g.crates c
     unfolding dependencies
-    needed_stands c is = (Contains-from_filter _ g.crates c is).0
+    needed_holds c is = (Contains-from_filter _ g.crates c is).0
 
     needed_joined : (c : Crate) → Contains (dependencies g place) c → HasEdge g place c.place
     unfolding dependencies
@@ -123,13 +124,13 @@ module _ (g : Graph) (placed : ArePlaced g.crates) (orderly : IsOrderly g) (plac
 
     pub each_needed : (n : ℕ) → HasEdge g place n ↔ Contains (map (λ (d : DirectDependent). d.place) ds) n
     each_needed = each_joined g placed (HasEdge g place)
-        (dependencies g place) ds needed_stands needed_joined needed_kept needed_within are.whole are.sound
+        (dependencies g place) ds needed_holds needed_joined needed_kept needed_within are.whole are.sound
 
     pub few_needed : length ds ≤ length (dependencies g place)
     few_needed = few_joined g placed (HasEdge g place)
-        (dependencies g place) ds needed_stands needed_joined needed_kept needed_within are.whole are.sound
+        (dependencies g place) ds needed_holds needed_joined needed_kept needed_within are.whole are.sound
         are.ascending
 
-pub dependent_stands : (g : Graph) (place : ℕ) (c : Crate) → Contains (dependents g place) c → Contains g.crates c
+pub dependent_holds : (g : Graph) (place : ℕ) (c : Crate) → Contains (dependents g place) c → Contains g.crates c
 unfolding dependents
-dependent_stands g place c is = (Contains-from_filter _ g.crates c is).0
+dependent_holds g place c is = (Contains-from_filter _ g.crates c is).0

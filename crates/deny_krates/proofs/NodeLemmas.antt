@@ -10,27 +10,27 @@ use Rattle.std.specs.Ordering.{nat_cmp}
 use Rattle.std.proofs.lemmas.List.Elements.{All-contains}
 use Rattle.std.proofs.lemmas.Option.{none-some, same_Some, slice_get-get_or, slice_get_within}
 use Rattle.std.proofs.lemmas.Slice.Eq.{bytes_eq-Decides}
-use Rattle.deny_lists.proofs.Members.{any_from, from_there, some_at, there}
-use Rattle.deny_lists.proofs.Finding.{found_member}
+use Rattle.deny_base_lists.proofs.Members.{any_from, from_there, some_at, there}
+use Rattle.deny_base_lists.proofs.Finding.{found_member}
 use Rattle.deny_base.specs.declared.edge.DepKind.{DepKind}
-use Rattle.deny_crate_graph.specs.Bounds.{node_count}
-use Rattle.deny_crate_graph.specs.Crates.{crate_view, crates_from}
-use Rattle.deny_crate_graph.specs.Dependents.{id_at}
-use Rattle.deny_crate_graph.specs.Ids.{crate_of}
+use Rattle.deny_krates_graph.specs.Bounds.{node_count}
+use Rattle.deny_krates_graph.specs.Crates.{crate_view, crates_from}
+use Rattle.deny_krates_graph.specs.Dependents.{id_at}
+use Rattle.deny_krates_graph.specs.Ids.{crate_of}
 use Rattle.deny_krates.specs.Nodes.{Incoming, Node, crate_node, feature_node, incoming_at, is_enabled, node_at, node_in}
 use Rattle.deny_krates.specs.Nodes.{node_named, nodes_of}
 use Rattle.deny_krates.specs.private.NodeNumbers.{IsLastUpTo, features_from, first_features_of}
 use Rattle.deny_krates.specs.private.Sources.{node_here}
-use Rattle.deny_crate_graph.specs.declared.krate.Krate.{Krate}
+use Rattle.deny_krates_graph.specs.declared.krate.Krate.{Krate}
 use Rattle.deny_krates.specs.declared.nodes.InEdge.{InEdge}
-use Rattle.deny_krates.proofs.NumberLemmas.{ArePlaced, crate_node_at, feature_count, feature_inside, feature_node_at}
+use Rattle.deny_krates.proofs.NumberLemmas.{HavePlaces, crate_node_at, feature_count, feature_inside, feature_node_at}
 use Rattle.deny_krates.proofs.NumberLemmas.{length-first_features, length-nodes, node_count-is}
 use Rattle.deny_krates.proofs.ResolutionLemmas.{crates-at}
-use Rattle.deny_crate_graph.proofs.CratesLemmas.{length-crates_from}
-use Rattle.deny_model.specs.Graph.{Crate, Graph}
-use Rattle.deny_model.specs.Text.{same_text}
+use Rattle.deny_krates_graph.proofs.CratesLemmas.{length-crates_from}
+use Rattle.deny_spec.specs.Graph.{Crate, Graph}
+use Rattle.deny_spec.specs.Text.{same_text}
 
--- a feature's node, by the crate that is the last whose first feature is not above it
+-- the node of a feature, by its crate, the last whose first feature is not above the node
 pub record IsOwned (g : Graph) (n p start : ℕ) : Type 0 where
   pub krate : Crate
   pub feature : List ℕ
@@ -42,7 +42,7 @@ pub read_start : (ns : List ℕ) (p s : ℕ) → slice_get ns p ≡ Some s → s
 read_start ns p s at =
     same_Some (slice_index_or ns p 0) s (sym (slice_get-get_or ns p 0 (slice_get_within ns p s at)) ∙ at)
 
--- the features of an owner, as they are read
+-- the feature of an owner at the index of a node
 pub owner_features : (g : Graph) (n p start : ℕ) (owned : IsOwned g n p start) (k : Krate)
     → slice_get g.crates p ≡ Some (crate_view p k) → slice_get k.enabled (n - start) ≡ Some owned.feature
 owner_features g n p start owned k at =
@@ -57,12 +57,12 @@ module _ (ks : List Krate) (g : Graph) (same : crates_from 0 ks ≡ g.crates) wh
   crate_of_krate n k at =
       ap (λ (cs : List Crate). slice_get cs n) (sym same) ∙ (crates-at ks n ∙ ap (option_map (crate_view n)) at)
 
-  -- what `krates[n]` gives
+  -- the crate that `krates[n]` is
   pub crate_read : (n : ℕ) (k : Krate) → n < length ks → k ≡ slice_index_or ks n k
       → slice_get g.crates n ≡ Some (crate_view n k)
   crate_read n k inside is = crate_of_krate n k (slice_get-get_or ks n k inside ∙ ap (λ j. Some j) (sym is))
 
-  pub placed : ArePlaced g
+  pub placed : HavePlaces g
   placed = record {
     each = λ n c at. by_krate n c (slice_get ks n) (sym (crates-at ks n)
         ∙ (ap (λ (cs : List Crate). slice_get cs n) same ∙ at));
@@ -81,7 +81,7 @@ module _ (ks : List Krate) (g : Graph) (same : crates_from 0 ks ≡ g.crates) wh
       let k = some_at ks n inside in
       node_of_crate n (crate_view n k.0) (crate_of_krate n k.0 k.1)
 
-  -- what is asked before a feature's node is sought
+  -- where a node is that of a feature, there is a first feature
   pub some_starts : (n : ℕ) → length ks ≤ n → n < length (nodes_of g) → 0 < length (first_features_of g)
   some_starts n past inside = by_crates g.crates as_many (omega (arith, past, inside, length-nodes g, as_many))
     where
@@ -143,9 +143,6 @@ module _ (ks : List Krate) (g : Graph) (same : crates_from 0 ks ≡ g.crates) wh
   enabled_ascend ascend n k at = All-contains (λ (c : Crate). IsStrictlySortedBy (slice_cmp nat_cmp) c.enabled) g.crates
       (crate_view n k) ascend (from_there g.crates n (crate_view n k) (crate_of_krate n k at))
 
-  pub id_read : (n : ℕ) (c : Crate) → slice_get g.crates n ≡ Some c → id_at g n ≡ c.id
-  id_read n c at = ap (λ o. option_map_or (λ (x : Crate). x.id) o []) at
-
   pub feature_within : (p s j : ℕ) (k : Krate) (f : List ℕ) → slice_get ks p ≡ Some k → slice_get k.enabled j ≡ Some f
       → slice_get (first_features_of g) p ≡ Some s → s + j < length (nodes_of g)
   feature_within p s j k f at of start = slice_get_within (nodes_of g) (s + j) (feature_node (crate_view p k) f)
@@ -161,8 +158,8 @@ number_of_crate g n inside =
 pub crate_within : (g : Graph) (n : ℕ) → n < length g.crates → n < length (nodes_of g)
 crate_within g n inside = omega (arith, inside, length-nodes g)
 
--- the node that an id and a feature name, by the place of its crate
-pub named_here : (g : Graph) (place : ℕ) (id : List ℕ) (feature : Option (List ℕ)) → ArePlaced g
+-- the node of an id and a feature, by the place of its crate
+pub named_here : (g : Graph) (place : ℕ) (id : List ℕ) (feature : Option (List ℕ)) → HavePlaces g
     → Some place ≡ option_map (λ (c : Crate). c.place) (crate_of g id)
     → (node_here g place feature ≡ node_named g id feature) × (place < length g.crates)
 unfolding node_named
@@ -187,7 +184,7 @@ not_named g id feature is = by_crate (crate_of g id) is
     by_crate None is = refl
     by_crate (Some c) is = absurd (none-some c.place is)
 
--- an edge from a node of this number
+-- the source of an edge from the node of a number
 pub incoming_of : (g : Graph) (e : InEdge) (i : Incoming) → slice_get (nodes_of g) e.node.0 ≡ Some i.node
     → e.kind ≡ i.kind → incoming_at g e ≡ i
 unfolding node_at
@@ -198,7 +195,8 @@ incoming_of g e i at kind =
     incoming_from : Node → Option DepKind → Incoming
     incoming_from n k = record { node = n; kind = k }
 
--- a crate's id, by the place that it has
-pub id_of_place : (g : Graph) (n : ℕ) (c : Crate) → ArePlaced g → slice_get g.crates n ≡ Some c → id_at g c.place ≡ c.id
+-- the id at the place of a crate
+pub id_of_place : (g : Graph) (n : ℕ) (c : Crate) → HavePlaces g → slice_get g.crates n ≡ Some c
+    → id_at g c.place ≡ c.id
 id_of_place g n c placed at =
     ap (id_at g) (placed.each n c at) ∙ ap (λ o. option_map_or (λ (x : Crate). x.id) o []) at

@@ -14,10 +14,10 @@ use Rattle.deny_krates.specs.Nodes.{feature_leads, has_edge, holds_plain, incomi
 use Rattle.deny_krates.specs.Nodes.{is_enabled, is_plain, leads_by_asking, leads_in_vain, leads_over, leads_undeclared}
 use Rattle.deny_krates.specs.Nodes.{manifest_name, node_in, node_named, nodes_of, of_parents, own_features, own_leading}
 use Rattle.deny_krates.specs.Nodes.{resolves_to, sources_at, sources_of_crate, sources_of_feature}
-use Rattle.deny_model.specs.Graph.{Crate, Dependency, Graph, dependents, leads}
-use Rattle.deny_model.specs.Groups.{has_name}
-use Rattle.deny_model.specs.Resolution.{agreeing, resolution, suits}
-use Rattle.deny_model.specs.declared.target_edge.TargetEdge.{TargetEdge}
+use Rattle.deny_spec.specs.Graph.{Crate, Dependency, Graph, dependents, leads}
+use Rattle.deny_spec.specs.Groups.{has_name}
+use Rattle.deny_spec.specs.Resolution.{agreeing, resolution, suits}
+use Rattle.deny_spec.specs.declared.target_edge.TargetEdge.{TargetEdge}
 
 -- a table of features, each with what it enables
 abbrev Table : Type 0
@@ -108,7 +108,7 @@ unfolding crate lib to_lib to_lib_for app_on_lib on_lib plainly app of_lib from 
     dependents leads resolution agreeing suits has_name kind_number
 on_cases = tt
 
--- what a table says of a feature
+-- looking up a feature in a table
 get_in : (table : Table) (feature : List ℕ)
     → finite.get {R = slice_cmp nat_cmp} (finite.from_entries table) feature
     ≡ finite.find (slice_cmp nat_cmp) feature table
@@ -133,7 +133,7 @@ own_only : incoming_in (app_on_lib [] [] []) (of_lib None) ≡ by_default ∷ by
 unfolding on_cases
 own_only = refl
 
--- a plain entry leads to the feature, and neither `dep:` nor a feature of a dependency does
+-- a plain entry leads to its feature, and neither an entry `dep:` nor a feature of a dependency does
 plain_entries : incoming_in (app_on_lib [] [] []) (of_lib (Some (codes "fast"))) ≡ by_default ∷ []
 unfolding on_cases
 plain_entries = simp get_in
@@ -153,7 +153,7 @@ not_to_the_crate : incoming_in (app_on_lib [] asks_fast (Normal ∷ [])) (of_lib
 unfolding on_cases asks_fast
 not_to_the_crate = refl
 
--- nor to `default`, where default features are off
+-- it does not go to `default` where default features are off
 no_default : incoming_in (app_on_lib [] asks_fast (Normal ∷ [])) (of_lib (Some (codes "default"))) ≡ []
 unfolding on_cases asks_fast
 no_default = simp get_in
@@ -169,7 +169,7 @@ in_vain : incoming_in (app_on_lib [] (on_lib Normal None (codes "slow" ∷ []) f
 unfolding on_cases
 in_vain = refl
 
--- and so does one of a kind of which there is no declaration
+-- an edge of a kind of which there is no declaration goes to the crate
 undeclared : incoming_in (app_on_lib [] (plainly Normal ∷ []) (Normal ∷ Build ∷ [])) (of_lib None)
     ≡ from app (Some Build) ∷ by_default ∷ by_fast ∷ []
 unfolding on_cases
@@ -204,7 +204,7 @@ weakly : incoming_in (app_on_lib (codes "lib?/fast" ∷ []) (plainly Normal ∷ 
 unfolding on_cases
 weakly = simp get_in
 
--- a dependency that is renamed goes by its new name alone
+-- a renamed dependency is known by its new name alone
 renamed : List Dependency
 renamed = on_lib Normal (Some (codes "engine")) [] true ∷ []
 

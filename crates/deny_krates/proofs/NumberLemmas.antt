@@ -1,29 +1,27 @@
--- The numbers of nodes: where each node stands, and that no two numbers have one node.
+-- The numbers of nodes: the node at each number, and that no two numbers share a node.
 use Rattle.std.proofs.Common.{◌≡◌, ◌<◌, ◌≤◌, ◌+◌, ◌-◌, ◌++◌, ◌∙◌, ◌⊎◌, ℕ, zero, suc, inl, inr, List, [], ◌∷◌, true}
-use Rattle.std.proofs.Common.{false, Some, None, length, drop, map, refl, sym, ap, subst, arith, add-one, append_assoc}
-use Rattle.std.proofs.Common.{append-nil, length-append}
+use Rattle.std.proofs.Common.{false, Some, None, length, map, refl, sym, ap, subst, arith}
+use Rattle.std.proofs.Common.{length-append}
 use Rattle.std.specs.Prelude.{All, AllPairs, ◌≢◌, nat_le, option_map, slice_get, slice_index_or}
 use Rattle.std.specs.List.{flat_map}
 use Rattle.std.specs.Cmp.Lexicographic.{nat_list_cmp_total, slice_cmp}
 use Rattle.std.specs.List.Sorted.{IsPartitionedBy, IsStrictlySortedBy}
 use Rattle.std.specs.Ordering.{nat_cmp}
 use Rattle.std.proofs.lemmas.List.Elements.{All-contains}
-use Rattle.std.proofs.Math.ListN.{drop_of_length-le}
-use Rattle.std.proofs.Math.Seq.{drop-cons}
 use Rattle.std.proofs.lemmas.Bool.{cases_lt, le-leb, leb-false, leb-true}
 use Rattle.std.proofs.lemmas.List.{length-map}
 use Rattle.std.proofs.lemmas.Option.{none-some, same_Some, slice_get-get_or, slice_get-map, slice_get_within}
-use Rattle.deny_lists.proofs.Members.{from_there, one_there, some_at}
-use Rattle.deny_lists.proofs.Orders.{not_below_itself}
-use Rattle.deny_lists.proofs.Sorted.{ascends_at}
-use Rattle.deny_lists.proofs.Indices.{slice_get-append_left}
-use Rattle.deny_model.specs.Graph.{Crate, Graph}
-use Rattle.deny_crate_graph.specs.Bounds.{node_count}
-use Rattle.deny_crate_graph.specs.Crates.{crate_view, crates_from}
+use Rattle.deny_base_lists.proofs.Members.{from_there, one_there, some_at}
+use Rattle.deny_base_lists.proofs.Orders.{not_below_itself}
+use Rattle.deny_base_lists.proofs.Sorted.{ascends_at}
+use Rattle.deny_base_lists.proofs.Indices.{slice_get-append_left}
+use Rattle.deny_spec.specs.Graph.{Crate, Graph}
+use Rattle.deny_krates_graph.specs.Bounds.{node_count}
+use Rattle.deny_krates_graph.specs.Crates.{crates_from}
 use Rattle.deny_krates.specs.Nodes.{Node, crate_node, feature_node, feature_nodes, nodes_of}
 use Rattle.deny_krates.specs.private.NodeNumbers.{IsLastUpTo, features_from, first_features_of}
-use Rattle.deny_crate_graph.specs.declared.krate.Krate.{Krate}
-use Rattle.deny_crate_graph.proofs.CratesLemmas.{length-crates_from}
+use Rattle.deny_krates_graph.specs.declared.krate.Krate.{Krate}
+use Rattle.deny_krates_graph.proofs.CratesLemmas.{length-crates_from}
 
 abbrev pub feature_count : List Crate → ℕ
 feature_count [] = 0
@@ -33,45 +31,13 @@ pub node_count-is : (cs : List Crate) → node_count cs ≡ length cs + feature_
 node_count-is [] = refl
 node_count-is (c ∷ cs) = omega (arith, node_count-is cs)
 
-pub next_crate : (krates : List Krate) (i : ℕ) (k : Krate) → i < length krates → k ≡ slice_index_or krates i k
-    → crates_from i (drop i krates) ≡ crate_view i k ∷ crates_from (i + 1) (drop (i + 1) krates)
-next_crate krates i k inside is = rw (drop-cons krates i k inside, ← is, add-one) refl
-
 -- ---- the numbers of first features
-
-pub starts_more : (krates : List Krate) (i next : ℕ) (k : Krate) (starts new : List ℕ) → i < length krates
-    → k ≡ slice_index_or krates i k → new ≡ starts ++ next ∷ []
-    → starts ++ features_from next (crates_from i (drop i krates))
-    ≡ features_from (length krates) (crates_from 0 krates)
-    → new ++ features_from (next + length k.enabled) (crates_from (i + 1) (drop (i + 1) krates))
-    ≡ features_from (length krates) (crates_from 0 krates)
-starts_more krates i next k starts new inside is pushed so =
-    let rest = features_from (next + length k.enabled) (crates_from (i + 1) (drop (i + 1) krates)) in
-    ap (λ ns. ns ++ rest) pushed
-    ∙ (append_assoc starts (next ∷ []) rest
-    ∙ (ap (λ cs. starts ++ features_from next cs) (sym (next_crate krates i k inside is)) ∙ so))
-
-pub starts_done : (krates : List Krate) (i next : ℕ) (starts : List ℕ) → length krates ≤ i
-    → starts ++ features_from next (crates_from i (drop i krates))
-    ≡ features_from (length krates) (crates_from 0 krates)
-    → starts ≡ features_from (length krates) (crates_from 0 krates)
-starts_done krates i next starts past so =
-    sym (append-nil starts)
-    ∙ (ap (λ (ks : List Krate). starts ++ features_from next (crates_from i ks)) (sym (drop_of_length-le krates past))
-    ∙ so)
-
-pub room_more : (krates : List Krate) (i next whole : ℕ) (k : Krate) → i < length krates
-    → k ≡ slice_index_or krates i k → next + feature_count (crates_from i (drop i krates)) ≡ whole
-    → (next + length k.enabled) + feature_count (crates_from (i + 1) (drop (i + 1) krates)) ≡ whole
-room_more krates i next whole k inside is so =
-    let split = ap feature_count (next_crate krates i k inside is) in
-    omega (arith, split, so)
 
 pub room_first : (krates : List Krate)
     → length krates + feature_count (crates_from 0 krates) ≡ node_count (crates_from 0 krates)
 room_first krates = omega (arith, node_count-is (crates_from 0 krates), length-crates_from 0 krates)
 
--- ---- they ascend
+-- ---- the numbers of first features ascend
 
 at_least : (cs : List Crate) (first p s : ℕ) → slice_get (features_from first cs) p ≡ Some s → first ≤ s
 at_least [] first p s at = absurd (none-some s at)
@@ -132,7 +98,7 @@ last_up_to starts number point some first within below above =
           absurd (omega (arith, high, first))
     ]
 
--- ---- where the nodes of features stand
+-- ---- the numbers of the nodes of features
 
 pub slice_get-right : {A : Type 0} (xs ys : List A) (n m : ℕ) → n ≡ length xs + m
     → slice_get (xs ++ ys) n ≡ slice_get ys m
@@ -143,13 +109,13 @@ slice_get-right (x ∷ xs) ys (suc n) m is = slice_get-right xs ys n m (omega (a
 length-feature_nodes : (c : Crate) → length (feature_nodes c) ≡ length c.enabled
 length-feature_nodes c = length-map c.enabled (feature_node c)
 
-pub length-features : (cs : List Crate) → length (flat_map feature_nodes cs) ≡ feature_count cs
+length-features : (cs : List Crate) → length (flat_map feature_nodes cs) ≡ feature_count cs
 length-features [] = refl
 length-features (c ∷ cs) =
     length-append (feature_nodes c) (flat_map feature_nodes cs)
     ∙ omega (arith, length-feature_nodes c, length-features cs)
 
--- the feature at an index of a crate stands so far behind its crate's first one
+-- the feature at an index of a crate has the number of the crate's first feature plus the index
 feature_at : (cs : List Crate) (first p s j m : ℕ) (c : Crate) (f : List ℕ) → slice_get cs p ≡ Some c
     → slice_get c.enabled j ≡ Some f → slice_get (features_from first cs) p ≡ Some s → first + m ≡ s + j
     → slice_get (flat_map feature_nodes cs) m ≡ Some (feature_node c f)
@@ -215,7 +181,7 @@ feature_node_at g p s j c f at of start =
     (omega (arith, low, length-map g.crates crate_node))
     ∙ feature_at g.crates (length g.crates) p s j ((s + j) - length g.crates) c f at of start (omega (arith, low))
 
--- the number of a feature's node, by the last first feature that is not above it
+-- the number of a feature's node, by the last crate whose first feature is not above it
 pub feature_inside : (g : Graph) (n p : ℕ) (c : Crate) (last : IsLastUpTo (first_features_of g) n p)
     → slice_get g.crates p ≡ Some c → n < length (nodes_of g) → n - last.start < length c.enabled
 feature_inside g n p c last at inside =
@@ -229,10 +195,10 @@ length-starts (c ∷ cs) first = ap suc (length-starts cs (first + length c.enab
 pub length-first_features : (g : Graph) → length (first_features_of g) ≡ length g.crates
 length-first_features g = length-starts g.crates (length g.crates)
 
--- ---- no two numbers have one node
+-- ---- no two numbers share a node
 
--- each crate has its place
-pub record ArePlaced (g : Graph) : Type 0 where
+-- the place of each crate of a graph is its index
+pub record HavePlaces (g : Graph) : Type 0 where
   pub each : (n : ℕ) (c : Crate) → slice_get g.crates n ≡ Some c → c.place ≡ n
 
 record IsFeature (g : Graph) (cs : List Crate) (first n : ℕ) : Type 0 where
@@ -279,13 +245,13 @@ located g (c ∷ cs) first n low high = elim (cases_lt n (first + length c.enabl
           }
     ]
 
-module _ (g : Graph) (placed : ArePlaced g)
+module _ (g : Graph) (placed : HavePlaces g)
     (ascend : All (λ c. IsStrictlySortedBy (slice_cmp nat_cmp) c.enabled) g.crates) where
-  -- what a number says of its node, and the node of its number
-  known : (n : ℕ) (node : Node) → slice_get (nodes_of g) n ≡ Some node
+  -- the node at a number is that of a crate, or of a feature
+  node_by_number : (n : ℕ) (node : Node) → slice_get (nodes_of g) n ≡ Some node
       → ((node.feature ≡ None) × (node.place ≡ n)) ⊎ ((at : IsFeature g g.crates (length g.crates) n)
       × (node.feature ≡ Some at.feature) × (node.place ≡ at.owner))
-  known n node is = elim (cases_lt n (length g.crates)) as
+  node_by_number n node is = elim (cases_lt n (length g.crates)) as
       (λ _. ((node.feature ≡ None) × (node.place ≡ n)) ⊎ ((at : IsFeature g g.crates (length g.crates) n)
       × (node.feature ≡ Some at.feature) × (node.place ≡ at.owner))) [
         | inl inside ↦
@@ -338,12 +304,12 @@ module _ (g : Graph) (placed : ArePlaced g)
 
   one_number : (m n : ℕ) (node : Node) → slice_get (nodes_of g) m ≡ Some node → slice_get (nodes_of g) n ≡ Some node
       → m ≡ n
-  one_number m n node at at' = elim (known m node at) as (λ _. m ≡ n) [
-    | inl krate ↦ elim (known n node at') as (λ _. m ≡ n) [
+  one_number m n node at at' = elim (node_by_number m node at) as (λ _. m ≡ n) [
+    | inl krate ↦ elim (node_by_number n node at') as (λ _. m ≡ n) [
       | inl other ↦ sym krate.1 ∙ other.1
       | inr other ↦ absurd (none-some other.0.feature (sym krate.0 ∙ other.1))
     ]
-    | inr feature ↦ elim (known n node at') as (λ _. m ≡ n) [
+    | inr feature ↦ elim (node_by_number n node at') as (λ _. m ≡ n) [
       | inl other ↦ absurd (none-some feature.0.feature (sym other.0 ∙ feature.1))
       | inr other ↦ same_feature m n feature.0 other.0 (sym feature.2 ∙ other.2)
           (same_Some feature.0.feature other.0.feature (sym feature.1 ∙ other.1))

@@ -1,4 +1,4 @@
--- What leads from a crate, or a feature of it, to another crate or a feature of that.
+-- The sources of edges from one crate or its features to another crate or a feature of it.
 use Rattle.std.proofs.Common.{◌≡◌, ◌∙◌, ℕ, List, [], ◌∷◌, ◌++◌, Bool, true, false, None, Some, IsTrue, append-nil}
 use Rattle.std.proofs.Common.{append_assoc, map, refl, sym, ap, subst}
 use Rattle.std.specs.Prelude.{◌&&◌, ◌||◌, ◌↔◌, Contains, cond, filter, not, slice_get}
@@ -7,8 +7,8 @@ use Rattle.std.proofs.lemmas.List.{map-append}
 use Rattle.std.proofs.lemmas.Option.{same_Some}
 use Rattle.deny_base.specs.declared.edge.DepKind.{DepKind}
 use Rattle.deny_base.specs.declared.edge.DepKind.TheVariants.{Normal, Dev, Build}
-use Rattle.deny_crate_graph.specs.Crates.{crate_view, dependency_view}
-use Rattle.deny_crate_graph.specs.Dependents.{id_at}
+use Rattle.deny_krates_graph.specs.Crates.{crate_view, dependency_view}
+use Rattle.deny_krates_graph.specs.Dependents.{id_at}
 use Rattle.deny_krates.specs.Nodes.{Incoming, all_kinds, asks_for, asks_in_vain, declares, entries_of, feature_leads}
 use Rattle.deny_krates.specs.Nodes.{from_crate, from_feature, from_own, has_edge, holds_plain, is_enabled, is_of_kind}
 use Rattle.deny_krates.specs.Nodes.{leads_by_asking, leads_in_vain, leads_over, leads_undeclared, own_features}
@@ -16,13 +16,13 @@ use Rattle.deny_krates.specs.Nodes.{own_leading, sources_of_crate, sources_of_fe
 use Rattle.deny_krates.specs.private.Resolved.{AreBetween}
 use Rattle.deny_krates.specs.private.Sources.{any_there, is_led_over, parent_in, parent_of, passes_there}
 use Rattle.deny_krates.specs.declared.incoming.Parent.{Parent}
-use Rattle.deny_crate_graph.specs.declared.krate.Dependency.{Dependency as Declared}
-use Rattle.deny_crate_graph.specs.declared.krate.Krate.{Krate}
+use Rattle.deny_krates_graph.specs.declared.krate.Dependency.{Dependency as Declared}
+use Rattle.deny_krates_graph.specs.declared.krate.Krate.{Krate}
 use Rattle.deny_krates.specs.declared.resolved.ResolvedAt.{ResolvedAt}
 use Rattle.deny_krates.proofs.NodeLemmas.{id_of_place}
-use Rattle.deny_krates.proofs.NumberLemmas.{ArePlaced}
+use Rattle.deny_krates.proofs.NumberLemmas.{HavePlaces}
 use Rattle.deny_krates.proofs.SourceLemmas.{any_declared, edge_asked}
-use Rattle.deny_model.specs.Graph.{Crate, Dependency, Graph}
+use Rattle.deny_spec.specs.Graph.{Crate, Dependency, Graph}
 
 -- an edge between two places
 pub edge_at : (g : Graph) (p c : Crate) (kind : DepKind) (parent child : ℕ) (answer : Bool) → p.place ≡ parent
@@ -46,11 +46,11 @@ no_edge_to_feature g p c kind feature none = rw (← none) refl
 
 module _ (g : Graph) (p c : Crate) (kind : DepKind) (run : List ResolvedAt) (at : slice_get g.crates p.place ≡ Some p)
     (between : AreBetween g c.place p.place run) where
-  pub declares_is : (test : Dependency → Bool) → any_there p.deps kind test run ≡ declares g p c kind test
+  declares_is : (test : Dependency → Bool) → any_there p.deps kind test run ≡ declares g p c kind test
   unfolding declares
   declares_is test = any_declared g p c run (λ d. is_of_kind kind d && test d) at between
 
-  pub leads_to_crate-is : (vain undeclared : Bool) → true ≡ has_edge g p c kind
+  leads_to_crate-is : (vain undeclared : Bool) → true ≡ has_edge g p c kind
       → vain ≡ any_there p.deps kind (asks_in_vain c) run
       → undeclared ≡ not (list_any (passes_there p.deps (is_of_kind kind)) run)
       → (vain || undeclared) ≡ (leads_in_vain g c p kind || leads_undeclared g c p kind)
@@ -65,18 +65,18 @@ module _ (g : Graph) (p c : Crate) (kind : DepKind) (run : List ResolvedAt) (at 
       )
       refl
 
-  pub leads_by_asking-is : (feature : List ℕ) → true ≡ has_edge g p c kind
+  leads_by_asking-is : (feature : List ℕ) → true ≡ has_edge g p c kind
       → any_there p.deps kind (asks_for feature) run ≡ leads_by_asking g c feature p kind
   unfolding leads_by_asking
   leads_by_asking-is feature has = rw (← has) (declares_is (asks_for feature))
 
-  pub feature_leads-is : (feature from : List ℕ)
+  feature_leads-is : (feature from : List ℕ)
       → any_there p.deps kind (λ d. list_any (leads_over d feature) (entries_of p from)) run
       ≡ feature_leads g c feature p kind from
   unfolding feature_leads
   feature_leads-is feature from = declares_is (λ d. list_any (leads_over d feature) (entries_of p from))
 
--- ---- as they are gathered
+-- ---- the sources that are collected
 
 pub filter_same : {X : Type 0} (f h : X → Bool) (xs : List X) → ((x : X) → f x ≡ h x) → filter f xs ≡ filter h xs
 filter_same f h [] same = refl
@@ -113,7 +113,7 @@ module _ (g : Graph) (p : Crate) (id : id_at g p.place ≡ p.id) where
       parent_with i = record { feature = None; id = i; kind = Some kind; place = p.place }
   parents_of_crate_are false kind = refl
 
-  pub own_parents : (fs : List (List ℕ))
+  own_parents : (fs : List (List ℕ))
       → map (parent_of g) (map (from_own p) fs) ≡ map (λ f. parent_in p None (Some f)) fs
   own_parents fs = map-map (parent_of g) (from_own p) fs
       ∙ map-same (λ f. parent_of g (from_own p f)) (λ f. parent_in p None (Some f)) fs
@@ -122,7 +122,7 @@ module _ (g : Graph) (p : Crate) (id : id_at g p.place ≡ p.id) where
       with_id : List ℕ → List ℕ → Parent
       with_id i f = record { feature = Some f; id = i; kind = None; place = p.place }
 
-  -- one parent and kind, at a crate
+  -- the sources of a crate that are one parent with one kind
   pub to_crate_led : (c : Crate) (kind : DepKind) (old new : List Parent)
       → true ≡ (leads_in_vain g c p kind || leads_undeclared g c p kind)
       → new ≡ old ++ parent_in p (Some kind) None ∷ []
@@ -140,7 +140,7 @@ module _ (g : Graph) (p : Crate) (id : id_at g p.place ≡ p.id) where
       ∙ ap (λ ps. old ++ ps) (ap (λ b. cond b (parent_in p (Some kind) None ∷ []) []) not_led
       ∙ sym (parents_of_crate_are (leads_in_vain g c p kind || leads_undeclared g c p kind) kind))
 
-  -- one parent and kind, at a feature
+  -- the sources of a feature that are one parent with one kind
   pub to_feature : (c : Crate) (feature : List ℕ) (kind : DepKind) (old mid new : List Parent)
       → mid ≡ old ++ cond (leads_by_asking g c feature p kind) (parent_in p (Some kind) None ∷ []) []
       → new ≡ mid ++ map (λ f. parent_in p (Some kind) (Some f)) (filter (feature_leads g c feature p kind) p.enabled)
@@ -181,7 +181,7 @@ by_three g sources old one two new first second third =
     ∙ (ap (λ ps. ps ++ b) (second ∙ (ap (λ ps. ps ++ d) first ∙ append_assoc old n d))
     ∙ (append_assoc old (n ++ d) b ∙ ap (λ ps. old ++ ps) (append_assoc n d b ∙ sym whole)))
 
--- ---- the same for crates as they are kept
+-- ---- tests of crates in code are those of their views
 
 vain_anywhere : (m n : ℕ) (k : Krate) → asks_in_vain (crate_view m k) ≡ asks_in_vain (crate_view n k)
 unfolding asks_in_vain is_enabled
@@ -191,7 +191,7 @@ entries_anywhere : (m n : ℕ) (k : Krate) → entries_of (crate_view m k) ≡ e
 unfolding entries_of
 entries_anywhere m n k = refl
 
-pub plain_anywhere : (m n : ℕ) (k : Krate) → holds_plain (crate_view m k) ≡ holds_plain (crate_view n k)
+plain_anywhere : (m n : ℕ) (k : Krate) → holds_plain (crate_view m k) ≡ holds_plain (crate_view n k)
 unfolding holds_plain entries_of
 plain_anywhere m n k = refl
 
@@ -231,10 +231,10 @@ module _ (g : Graph) (child parent : ℕ) (kc kp : Krate) (kind : DepKind) (run 
       (λ d. list_any (leads_over d feature) (entries from)) run) (entries_anywhere 0 parent kp)
       ∙ feature_leads-is g (crate_view parent kp) (crate_view child kc) kind run at between feature from
 
--- ---- the first sources of a node, those of the crate itself
+-- ---- the sources of a node that are features of its own crate
 
 module _ (g : Graph) (x : Crate) (place : ℕ) (k : Krate) where
-  own_first_of : (fs gs : List (List ℕ)) (old new : List Parent) → ArePlaced g
+  own_first_of : (fs gs : List (List ℕ)) (old new : List Parent) → HavePlaces g
       → slice_get g.crates place ≡ Some (crate_view place k) → slice_get g.crates place ≡ Some x → fs ≡ gs → old ≡ []
       → new ≡ old ++ map (λ f. parent_in (crate_view place k) None (Some f)) fs
       → new ≡ map (parent_of g) (map (from_own x) gs)
@@ -246,7 +246,7 @@ module _ (g : Graph) (x : Crate) (place : ℕ) (k : Krate) where
       ∙ (ap (λ (q : Crate). map (λ f. parent_in q None (Some f)) gs) same
       ∙ sym (own_parents g x (id_of_place g place x are x_at) gs))))
 
-pub own_first : (g : Graph) (x : Crate) (place : ℕ) (k : Krate) → ArePlaced g
+pub own_first : (g : Graph) (x : Crate) (place : ℕ) (k : Krate) → HavePlaces g
     → slice_get g.crates place ≡ Some (crate_view place k) → slice_get g.crates place ≡ Some x → (old new : List Parent)
     → old ≡ [] → new ≡ old ++ map (λ f. parent_in (crate_view place k) None (Some f)) k.enabled
     → new ≡ map (parent_of g) (own_features x)
@@ -255,7 +255,7 @@ own_first g x place k are here x_at old new none added =
     own_first_of g x place k k.enabled x.enabled old new are here x_at
     (ap (λ (q : Crate). q.enabled) (same_Some (crate_view place k) x (sym here ∙ x_at))) none added
 
-pub leading_first : (g : Graph) (x : Crate) (place : ℕ) (k : Krate) (feature : List ℕ) → ArePlaced g
+pub leading_first : (g : Graph) (x : Crate) (place : ℕ) (k : Krate) (feature : List ℕ) → HavePlaces g
     → slice_get g.crates place ≡ Some (crate_view place k) → slice_get g.crates place ≡ Some x → (old new : List Parent)
     → old ≡ [] → new ≡ old ++ map (λ f. parent_in (crate_view place k) None (Some f))
     (filter (holds_plain (crate_view 0 k) feature) k.enabled)

@@ -1,24 +1,24 @@
--- Crates stand at their places.
+-- Crates are at their places.
 use Rattle.std.proofs.Common.{◌≡◌, ◌+◌, ◌<◌, ℕ, List, [], ◌∷◌, Contains, Option, Some, None, get_or, length, map}
 use Rattle.std.proofs.Common.{option_map, slice_get, refl, sym, ap, ◌∙◌, subst, arith, ◌++◌}
 use Rattle.std.specs.List.{range_with_len, flat_map}
 use Rattle.std.proofs.lemmas.Option.{none-some, same_Some, slice_get-get_or, slice_get_within}
-use Rattle.deny_crate_graph.specs.Crates.{crate_view, crates_from}
-use Rattle.deny_crate_graph.specs.declared.krate.Krate.{Krate}
-use Rattle.deny_lists.proofs.Members.{some_at, there, Contains-first, Contains-rest}
+use Rattle.deny_krates_graph.specs.Crates.{crate_view, crates_from}
+use Rattle.deny_krates_graph.specs.declared.krate.Krate.{Krate}
+use Rattle.deny_base_lists.proofs.Members.{some_at, there, Contains-first, Contains-rest}
 use Rattle.deny_krates.proofs.ResolutionLemmas.{crates_from-at}
-use Rattle.deny_crate_graph.proofs.CratesLemmas.{length-crates_from}
-use Rattle.deny_model.specs.Graph.{Crate, Graph}
+use Rattle.deny_krates_graph.proofs.CratesLemmas.{length-crates_from}
+use Rattle.deny_spec.specs.Graph.{Crate, Graph}
 use Rattle.deny_krates.specs.Placed.{ArePlaced}
 
 abbrev pub place_of : Crate → ℕ
 place_of c = c.place
 
-pub place_from : (at : ℕ) (k : Option Krate) (c : Crate) → option_map (crate_view at) k ≡ Some c → c.place ≡ at
+place_from : (at : ℕ) (k : Option Krate) (c : Crate) → option_map (crate_view at) k ≡ Some c → c.place ≡ at
 place_from at None c is = absurd (none-some c is)
 place_from at (Some k) c is = sym (ap place_of (same_Some (crate_view at k) c is))
 
-pub place_in : (ks : List Krate) (n : ℕ) (c : Crate) → slice_get (crates_from 0 ks) n ≡ Some c → c.place ≡ n
+place_in : (ks : List Krate) (n : ℕ) (c : Crate) → slice_get (crates_from 0 ks) n ≡ Some c → c.place ≡ n
 place_in ks n c is =
     let here : 0 + n ≡ n = omega arith in
     place_from (0 + n) (slice_get ks n) c (sym (crates_from-at 0 ks n) ∙ is) ∙ here
@@ -31,13 +31,13 @@ places_from at (k ∷ ks) = ap (λ places. at ∷ places) (places_from (at + 1) 
 placed_from : (ks : List Krate) → ArePlaced (crates_from 0 ks)
 placed_from ks = record {
   at = λ c is.
-      let stands = there (crates_from 0 ks) c is in
-      ap (slice_get (crates_from 0 ks)) (place_in ks stands.0 c stands.1) ∙ stands.1;
+      let holds = there (crates_from 0 ks) c is in
+      ap (slice_get (crates_from 0 ks)) (place_in ks holds.0 c holds.1) ∙ holds.1;
   place = place_in ks;
   places = places_from 0 ks;
 }
 
--- the crates of a graph stand so
+-- the crates of a graph are at their places
 pub are_placed : (ks : List Krate) (crates : List Crate) → crates_from 0 ks ≡ crates → ArePlaced crates
 are_placed ks crates e = subst ArePlaced e (placed_from ks)
 
@@ -57,19 +57,19 @@ pub krate_there : (ks : List Krate) (crates : List Crate) (n : ℕ) (d : Krate) 
 krate_there ks crates n d e inside = at_place ks crates n e ∙ ap (option_map
     (crate_view n)) (slice_get-get_or ks n d inside)
 
--- what follows where crates are placed
+-- consequences of crates being at their places
 
 module _ (crates : List Crate) (placed : ArePlaced crates) where
   pub one_place : (c d : Crate) → Contains crates c → Contains crates d → c.place ≡ d.place → c ≡ d
-  one_place c d c_stands d_stands same = same_Some c d (sym (placed.at c c_stands)
-      ∙ (ap (slice_get crates) same ∙ placed.at d d_stands))
+  one_place c d c_holds d_holds same = same_Some c d (sym (placed.at c c_holds)
+      ∙ (ap (slice_get crates) same ∙ placed.at d d_holds))
 
   pub place_within : (c : Crate) → Contains crates c → c.place < length crates
-  place_within c stands = slice_get_within crates c.place c (placed.at c stands)
+  place_within c holds = slice_get_within crates c.place c (placed.at c holds)
 
-  -- a crate stands at each place that is within them
-  pub stands_at : (n : ℕ) → n < length crates → (c : Crate) × (slice_get crates n ≡ Some c) × (c.place ≡ n)
-  stands_at n inside = let found = some_at crates n inside in (found.0, found.1, placed.place n found.0 found.1)
+  -- there is a crate at each place below their number
+  pub holds_at : (n : ℕ) → n < length crates → (c : Crate) × (slice_get crates n ≡ Some c) × (c.place ≡ n)
+  holds_at n inside = let found = some_at crates n inside in (found.0, found.1, placed.place n found.0 found.1)
 
 pub krate_at : (g : Graph) (ks : List Krate) (place : ℕ) (k : Krate) → crates_from 0 ks ≡ g.crates
     → place < length ks → k ≡ get_or ks place k → slice_get g.crates place ≡ Some (crate_view place k)
@@ -80,7 +80,7 @@ krate_at g ks place k same inside is =
     ∙ ap (λ n. option_map (crate_view n) (slice_get ks place)) zero_on
     ∙ ap (option_map (crate_view place)) (slice_get-get_or ks place k inside ∙ ap (λ j. Some j) (sym is))
 
--- what places give is what crates give
+-- mapping places is mapping their crates
 pub flat_map-place_of : {Y : Type 0} (f : ℕ → List Y) (h : Crate → List Y) (cs : List Crate)
     → ((c : Crate) → Contains cs c → f c.place ≡ h c) → flat_map f (map place_of cs) ≡ flat_map h cs
 flat_map-place_of f h [] same = refl

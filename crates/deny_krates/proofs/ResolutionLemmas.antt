@@ -6,22 +6,22 @@ use Rattle.std.specs.Borrow.{Bor}
 use Rattle.std.specs.Option.{option_and_then, option_eq, option_or}
 use Rattle.std.proofs.lemmas.Bool.{and_from, and_parts, eq-eqb, eqb-true, false_from_ne_true, not_from_false}
 use Rattle.std.proofs.lemmas.Option.{slice_get-map}
-use Rattle.deny_lists.proofs.Booleans.{tests_agree}
-use Rattle.deny_lists.proofs.Filters.{find-filter, find-map, first-filter}
-use Rattle.deny_model.specs.Graph.{Crate, Dependency, Graph}
-use Rattle.deny_model.specs.Groups.{has_name}
-use Rattle.deny_model.specs.Resolution.{agreeing, is_wanted, passes_at, resolution, suits}
-use Rattle.deny_model.specs.Text.{same_text}
-use Rattle.deny_model.specs.declared.target_edge.TargetEdge.{TargetEdge}
-use Rattle.deny_crate_graph.specs.Crates.{crate_view, crates_from, dependency_view}
+use Rattle.deny_base_lists.proofs.Booleans.{tests_agree}
+use Rattle.deny_base_lists.proofs.Filters.{find-filter, find-map, first-filter}
+use Rattle.deny_spec.specs.Graph.{Crate, Dependency, Graph}
+use Rattle.deny_spec.specs.Groups.{has_name}
+use Rattle.deny_spec.specs.Resolution.{agreeing, is_wanted, passes_at, resolution, suits}
+use Rattle.deny_spec.specs.Text.{same_text}
+use Rattle.deny_spec.specs.declared.target_edge.TargetEdge.{TargetEdge}
+use Rattle.deny_krates_graph.specs.Crates.{crate_view, crates_from, dependency_view}
 use Rattle.deny_krates.specs.private.Resolved.{is_before}
 use Rattle.deny_krates.proofs.BeforeLemmas.{from_before, to_before}
-use Rattle.deny_crate_graph.specs.declared.krate.Dependency.{Dependency as Declared}
-use Rattle.deny_crate_graph.specs.declared.krate.Krate.{Krate}
+use Rattle.deny_krates_graph.specs.declared.krate.Dependency.{Dependency as Declared}
+use Rattle.deny_krates_graph.specs.declared.krate.Krate.{Krate}
 
 -- ---- the first of a parent's edges
 
-pub resolves : (crates : List Crate) (d : Dependency) (own : List TargetEdge)
+resolves : (crates : List Crate) (d : Dependency) (own : List TargetEdge)
     → option_or (find (is_wanted crates d) (map (λ (e : TargetEdge). e.child) (filter (suits crates d) own)))
     (slice_get (map (λ (e : TargetEdge). e.child) (filter (suits crates d) own)) 0)
     ≡ option_or (option_map (λ (e : TargetEdge). e.child)
@@ -38,7 +38,7 @@ resolves crates d own =
     ∙ ap (λ o. option_or (option_map child
     (find (λ (e : TargetEdge). is_wanted crates d e.child && suits crates d e) own)) o) first
 
--- what suits is kept by a test that all that suits passes
+-- a filter that all suitable edges pass keeps the first suitable edge
 suits_between : (crates : List Crate) (d : Dependency) (p q : TargetEdge → Bool) (es : List TargetEdge)
     → ((e : TargetEdge) → suits crates d e ≡ true → p e ≡ q e)
     → filter (suits crates d) (filter p es) ≡ filter (suits crates d) (filter q es)

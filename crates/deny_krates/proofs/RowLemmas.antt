@@ -1,4 +1,4 @@
--- The parents of a node, as they are gathered by the rows of direct dependents.
+-- The sources of a node, as they are collected from the rows of direct dependents.
 use Rattle.std.proofs.Common.{◌≡◌, ◌<◌, ◌≤◌, ◌+◌, ◌∙◌, ℕ, List, [], ◌∷◌, ◌++◌, Some, Option, drop, length, map, refl}
 use Rattle.std.proofs.Common.{slice_index_or, sym, ap, subst}
 use Rattle.std.specs.Prelude.{◌↔◌, Contains, slice_get}
@@ -6,23 +6,23 @@ use Rattle.std.specs.List.{flat_map}
 use Rattle.std.specs.Option.{option_map_or}
 use Rattle.std.proofs.lemmas.List.{map-append}
 use Rattle.std.proofs.lemmas.List.Elements.{All-contains}
-use Rattle.deny_lists.proofs.Loops.{flat-step, pushed_all}
-use Rattle.deny_lists.proofs.Members.{Contains-from_map}
+use Rattle.deny_base_lists.proofs.Loops.{flat-step, pushed_all}
+use Rattle.deny_base_lists.proofs.Members.{Contains-from_map}
 use Rattle.deny_base.specs.declared.edge.DepKind.{DepKind}
-use Rattle.deny_crate_graph.specs.Dependents.{AreDirectDependents}
+use Rattle.deny_krates_graph.specs.Dependents.{AreDirectDependents}
 use Rattle.deny_krates.specs.Nodes.{Incoming, of_parents}
 use Rattle.deny_krates.specs.private.Sources.{parent_of}
 use Rattle.deny_krates.specs.declared.incoming.Parent.{Parent}
-use Rattle.deny_crate_graph.specs.declared.krate.DirectDependent.{DirectDependent}
-use Rattle.deny_krates.proofs.NumberLemmas.{ArePlaced}
+use Rattle.deny_krates_graph.specs.declared.krate.DirectDependent.{DirectDependent}
+use Rattle.deny_krates.proofs.NumberLemmas.{HavePlaces}
 use Rattle.deny_krates.proofs.SourceLemmas.{by_kinds, dependent_at, gathered_are, of_row}
-use Rattle.deny_model.specs.Graph.{Crate, Graph, dependents}
+use Rattle.deny_spec.specs.Graph.{Crate, Graph, dependents}
 
--- what a row of a direct dependent gives
+-- the sources that a direct dependent gives
 abbrev pub row_parents : Graph → (Crate → DepKind → List Incoming) → DirectDependent → List Parent
 row_parents g sources d = map (parent_of g) (of_row g (by_kinds sources) d)
 
-module _ (g : Graph) (placed : ArePlaced g) where
+module _ (g : Graph) (placed : HavePlaces g) where
   pub row_inside : (place : ℕ) (ds : List DirectDependent) (d : DirectDependent) → AreDirectDependents g place ds
       → Contains ds d → (p : Crate) × (slice_get g.crates d.place ≡ Some p)
   row_inside place ds d rows is =
@@ -49,11 +49,11 @@ module _ (g : Graph) (placed : ArePlaced g) where
       is ∙ (ap (λ ps. map (parent_of g) own ++ ps) (sym (map-flat (of_row g (by_kinds sources)) ds))
       ∙ sym (map-append (parent_of g) own (flat_map (of_row g (by_kinds sources)) ds))) in
       let same = gathered_are g placed own x ds sources rows p in (
-        (λ stands. same.0 (subst (λ (ps : List Parent). Contains ps p) whole stands)),
-        (λ stands. subst (λ (ps : List Parent). Contains ps p) (sym whole) (same.1 stands)),
+        (λ holds. same.0 (subst (λ (ps : List Parent). Contains ps p) whole holds)),
+        (λ holds. subst (λ (ps : List Parent). Contains ps p) (sym whole) (same.1 holds)),
       )
 
--- one more row
+-- one direct dependent more
 pub row_more : (g : Graph) (sources : Crate → DepKind → List Incoming) (ds : List DirectDependent) (d : DirectDependent)
     (p : Crate) (i : ℕ) (old new whole : List Parent) → i < length ds → d ≡ slice_index_or ds i d
     → slice_get g.crates d.place ≡ Some p → new ≡ old ++ map (parent_of g) (by_kinds sources p)

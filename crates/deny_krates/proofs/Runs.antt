@@ -1,5 +1,5 @@
--- The run of a key in a list that is in order of it.
-use Rattle.deny_lists.proofs.Orders.{is_equal, not_both, not_equal_above, not_equal_below}
+-- The consecutive crates of a name in a list that is in the order of names.
+use Rattle.deny_base_lists.proofs.Orders.{is_equal, not_both, not_equal_above, not_equal_below}
 use Rattle.std.proofs.Common.{inl, inr, ◌+◌, zero, suc, take, drop, ◌≡◌, ◌≤◌, ◌<◌, ℕ, List, [], ◌∷◌, Option, Some, None}
 use Rattle.std.proofs.Common.{true, false, length, refl, sym, arith, ◌∙◌, ap}
 use Rattle.std.specs.Prelude.{slice_index_or, filter, option_map, slice_get}
@@ -9,12 +9,12 @@ use Rattle.std.specs.Cmp.Lexicographic.{slice_cmp, texts_ties}
 use Rattle.std.specs.Ordering.{is_lt, is_le, is_eq, nat_cmp}
 use Rattle.std.proofs.lemmas.Bool.{cases_lt}
 use Rattle.std.proofs.Math.Seq.{take-nil, drop-nil}
-use Rattle.deny_model.specs.Groups.{has_name}
-use Rattle.deny_model.specs.Resolution.{passes_at}
-use Rattle.deny_model.specs.Text.{same_text}
+use Rattle.deny_spec.specs.Groups.{has_name}
+use Rattle.deny_spec.specs.Resolution.{passes_at}
+use Rattle.deny_spec.specs.Text.{same_text}
 use Rattle.deny_krates.proofs.ResolutionLemmas.{crates-at}
-use Rattle.deny_crate_graph.specs.Crates.{crate_view, crates_from}
-use Rattle.deny_crate_graph.specs.declared.krate.Krate.{Krate}
+use Rattle.deny_krates_graph.specs.Crates.{crate_view, crates_from}
+use Rattle.deny_krates_graph.specs.declared.krate.Krate.{Krate}
 
 same_there : (a b : List ℕ) → is_lt (slice_cmp nat_cmp a b) ≡ false → is_le (slice_cmp nat_cmp a b) ≡ true
     → same_text a b ≡ true
@@ -61,7 +61,7 @@ upward name (k ∷ ks) s e room below above = elim (cases_lt e s) as (λ _. s �
   | inr before ↦ before
 ]
 
--- a crate of a name stands among them
+-- a crate of a name is among them
 pub named_inside : (name : List ℕ) (ks : List Krate) (s e place : ℕ)
     → ((k : ℕ) (d : Krate) → k < s → is_lt (slice_cmp nat_cmp (slice_index_or ks k d).name name) ≡ true)
     → ((k : ℕ) (d : Krate) → e ≤ k → k < length ks → is_le (slice_cmp nat_cmp (slice_index_or ks k d).name name)

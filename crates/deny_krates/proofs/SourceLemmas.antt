@@ -1,4 +1,4 @@
--- Sources of edges: their order, and how those that are gathered are those of a node.
+-- Sources of edges: their order, and that those that are collected are those of a node.
 use Rattle.std.proofs.Common.{◌≡◌, ◌∙◌, ℕ, inl, inr, List, [], ◌++◌, Bool, true, false, Option, Some, None, IsTrue, map}
 use Rattle.std.proofs.Common.{refl, sym, ap, subst}
 use Rattle.std.specs.Prelude.{◌==◌, ◌&&◌, ◌↔◌, Contains, slice_get}
@@ -12,28 +12,30 @@ use Rattle.std.specs.declared.cmp.Ordering.TheVariants.{Less, Equal}
 use Rattle.std.proofs.lemmas.Bool.{and_from, and_parts, eq-eqb, eqb-true}
 use Rattle.std.proofs.lemmas.List.Elements.{All-contains, Contains-append_cases, Contains-append_left}
 use Rattle.std.proofs.lemmas.List.Elements.{Contains-append_right}
-use Rattle.deny_lists.specs.Ascending.{Lists}
-use Rattle.deny_lists.proofs.Booleans.{tests_agree}
-use Rattle.deny_lists.proofs.Members.{Contains-filter, Contains-flat_map, Contains-from_filter, Contains-from_flat_map}
-use Rattle.deny_lists.proofs.Members.{Contains-from_map, any_from, any_passes, contains_map, from_there, there}
-use Rattle.deny_lists.proofs.Orders.{option_text_cmp-exact, text_cmp-exact, then_first, then_second, option_cmp-exact}
-use Rattle.deny_lists.proofs.Sorted.{ascends_map}
+use Rattle.deny_base_lists.specs.Ascending.{Lists}
+use Rattle.deny_base_lists.proofs.Booleans.{tests_agree}
+use Rattle.deny_base_lists.proofs.Members.{Contains-filter, Contains-flat_map, Contains-from_filter}
+use Rattle.deny_base_lists.proofs.Members.{Contains-from_flat_map}
+use Rattle.deny_base_lists.proofs.Members.{Contains-from_map, any_from, any_passes, contains_map, from_there, there}
+use Rattle.deny_base_lists.proofs.Orders.{option_text_cmp-exact, text_cmp-exact, then_first, then_second}
+use Rattle.deny_base_lists.proofs.Orders.{option_cmp-exact}
+use Rattle.deny_base_lists.proofs.Sorted.{ascends_map}
 use Rattle.deny_base.proofs.EdgeEqual.{kind_cmp-exact, edge_from, edge_from-is}
 use Rattle.deny_base.specs.Edge.{kind_cmp, kind_number}
 use Rattle.deny_base.specs.declared.edge.DepKind.{DepKind}
 use Rattle.deny_base.specs.declared.edge.Edge.{Edge}
-use Rattle.deny_crate_graph.specs.Dependents.{AreDirectDependents, id_at}
+use Rattle.deny_krates_graph.specs.Dependents.{AreDirectDependents, id_at}
 use Rattle.deny_krates.specs.Nodes.{Incoming, Node, declared, has_edge, incoming_cmp, incoming_in, of_parents}
 use Rattle.deny_krates.specs.Nodes.{resolves_to, sources_at, all_kinds}
 use Rattle.deny_krates.specs.private.Resolved.{AreBetween, IsResolvedAt, resolved_to}
 use Rattle.deny_krates.specs.private.Sources.{parent_cmp, parent_of, passes_there, source_of}
 use Rattle.deny_krates.specs.declared.incoming.Parent.{Parent}
-use Rattle.deny_crate_graph.specs.declared.krate.DirectDependent.{DirectDependent}
+use Rattle.deny_krates_graph.specs.declared.krate.DirectDependent.{DirectDependent}
 use Rattle.deny_krates.specs.declared.resolved.ResolvedAt.{ResolvedAt}
 use Rattle.deny_krates.proofs.InOrderLemmas.{in_order_is}
-use Rattle.deny_krates.proofs.NumberLemmas.{ArePlaced}
-use Rattle.deny_model.specs.Graph.{Crate, Dependency, Graph, dependents, leads}
-use Rattle.deny_model.specs.Resolution.{declaration_at, resolution}
+use Rattle.deny_krates.proofs.NumberLemmas.{HavePlaces}
+use Rattle.deny_spec.specs.Graph.{Crate, Dependency, Graph, dependents, leads}
+use Rattle.deny_spec.specs.Resolution.{declaration_at, resolution}
 
 -- ---- orders
 
@@ -91,7 +93,7 @@ module _ (g : Graph) where
       (then_total (on_total (λ (i : Incoming). i.kind) (options_total kind_total))
       (on_total (λ (i : Incoming). i.node.place) nat_cmp_total)))
 
-  -- a parent with the id of its crate
+  -- the id of a parent is that of its crate
   abbrev HasId : Parent → Type 0
   HasId p = p.id ≡ id_at g p.place
 
@@ -106,7 +108,7 @@ module _ (g : Graph) where
       (ordering_then (slice_cmp nat_cmp x.id id)
       (ordering_then (option_cmp kind_cmp x.kind y.kind) (nat_cmp x.place y.place))) ≡ Less) y_id less)
 
-  -- what is gathered of a node's sources, put in order
+  -- the collected sources of a node, put in order, are those of the edges that end at it
   pub incoming_are : (node : Node) (c : Crate) (old ps : List Parent) → slice_get g.crates node.place ≡ Some c
       → Lists parent_cmp (Contains old) ps
       → ((p : Parent) → Contains old p ↔ Contains (map (parent_of g) (sources_at g node.feature c)) p)
@@ -131,16 +133,16 @@ module _ (g : Graph) where
           let of = Contains-from_map (parent_of g) (sources_at g node.feature c) p ((same p).0 is) in
           subst (λ (q : Parent). HasId q) of.is refl
 
--- ---- direct dependents, by the rows that are kept of them
+-- ---- direct dependents, by the rows that the graph keeps
 
--- what is said of the crate of a row
+-- the sources that the crate of a row gives
 abbrev pub of_row : Graph → (Crate → List Incoming) → DirectDependent → List Incoming
 of_row g sources d = option_map_or sources (slice_get g.crates d.place) []
 
 abbrev pub by_kinds : (Crate → DepKind → List Incoming) → Crate → List Incoming
 by_kinds sources p = flat_map (sources p) all_kinds
 
-module _ (g : Graph) (placed : ArePlaced g) where
+module _ (g : Graph) (placed : HavePlaces g) where
   pub dependent_at : (place : ℕ) (p : Crate) → Contains (dependents g place) p → slice_get g.crates p.place ≡ Some p
   unfolding dependents
   dependent_at place p is =
@@ -148,7 +150,7 @@ module _ (g : Graph) (placed : ArePlaced g) where
       (Contains-from_filter (λ (q : Crate). list_any (leads q.place place) g.edges) g.crates p is).0 in
       subst (λ (n : ℕ). slice_get g.crates n ≡ Some p) (sym (placed.each at.0 p at.1)) at.1
 
-  -- the sources of rows are those of direct dependents
+  -- the sources that rows give are those of direct dependents
   rows_are : (c : Crate) (ds : List DirectDependent) (sources : Crate → DepKind → List Incoming)
       → AreDirectDependents g c.place ds → (i : Incoming)
       → Contains (flat_map (of_row g (by_kinds sources)) ds) i ↔ Contains (of_parents g c sources) i
@@ -197,7 +199,7 @@ module _ (g : Graph) (placed : ArePlaced g) where
         (λ i. (rows_are c ds sources rows i).1) p,
   )
 
--- ---- what is asked of declarations and edges
+-- ---- tests of declarations and edges
 
 -- a test of the declarations that resolve
 pub any_declared : (g : Graph) (p c : Crate) (run : List ResolvedAt) (test : Dependency → Bool)
@@ -245,7 +247,7 @@ any_declared g p c run test at between = tests_agree (list_any (passes_there p.d
         (between.whole here.0 (ap (option_and_then (resolution g p.place)) (declares_here here.0 ∙ here.1) ∙ resolves))
         (ap (λ o. option_map_or test o false) here.1 ∙ one.passes)
 
--- an edge between two crates, as it is asked of the graph
+-- the test whether the graph has an edge between two crates
 pub edge_asked : (g : Graph) (p c : Crate) (kind : DepKind) (answer : Bool)
     → IsTrue answer ↔ Contains g.edges (record { parent = p.place; child = c.place; kind = kind })
     → answer ≡ has_edge g p c kind

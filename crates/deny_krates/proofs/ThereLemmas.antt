@@ -7,24 +7,24 @@ use Rattle.std.specs.Option.{option_and_then}
 use Rattle.std.proofs.lemmas.List.Elements.{Contains-append_cases}
 use Rattle.std.proofs.lemmas.Option.{slice_get-get_or}
 use Rattle.std.proofs.lemmas.Slice.Eq.{bytes_eq-Decides}
-use Rattle.deny_lists.specs.Ascending.{Lists}
-use Rattle.deny_lists.proofs.Members.{Contains-by_cases, Contains-from_filter, Contains-from_flat_map}
-use Rattle.deny_lists.proofs.Members.{Contains-from_map, any_from, from_there, no_member}
+use Rattle.deny_base_lists.specs.Ascending.{Lists}
+use Rattle.deny_base_lists.proofs.Members.{Contains-by_cases, Contains-from_filter, Contains-from_flat_map}
+use Rattle.deny_base_lists.proofs.Members.{Contains-from_map, any_from, from_there, no_member}
 use Rattle.deny_base.specs.declared.edge.DepKind.{DepKind}
 use Rattle.deny_krates.specs.Nodes.{Incoming, all_kinds, feature_leads, from_crate, from_feature, from_own, holds_plain}
 use Rattle.deny_krates.specs.Nodes.{is_enabled, leads_by_asking, leads_in_vain, leads_undeclared, node_in, of_parents}
 use Rattle.deny_krates.specs.Nodes.{own_features, own_leading, sources_at, sources_of_crate, sources_of_feature}
 use Rattle.deny_krates.specs.private.Sources.{IsThere, node_here, parent_cmp, parent_of}
 use Rattle.deny_krates.specs.declared.incoming.Parent.{Parent}
-use Rattle.deny_krates.proofs.NumberLemmas.{ArePlaced}
+use Rattle.deny_krates.proofs.NumberLemmas.{HavePlaces}
 use Rattle.deny_krates.proofs.SourceLemmas.{dependent_at}
-use Rattle.deny_model.specs.Graph.{Crate, Graph, dependents}
-use Rattle.deny_model.specs.Text.{same_text}
+use Rattle.deny_spec.specs.Graph.{Crate, Graph, dependents}
+use Rattle.deny_spec.specs.Text.{same_text}
 
 abbrev IsSource : Graph → Incoming → Type 0
 IsSource g i = node_here g i.node.place i.node.feature ≡ Some i.node
 
-module _ (g : Graph) (placed : ArePlaced g) where
+module _ (g : Graph) (placed : HavePlaces g) where
   crate_there : (p : Crate) (kind : DepKind) → slice_get g.crates p.place ≡ Some p → IsSource g (from_crate p kind)
   unfolding node_in
   crate_there p kind at = ap (option_and_then (node_in None)) at
@@ -32,16 +32,16 @@ module _ (g : Graph) (placed : ArePlaced g) where
   feature_there : (p : Crate) (kind : DepKind) (f : List ℕ) → slice_get g.crates p.place ≡ Some p
       → Contains p.enabled f → IsSource g (from_feature p kind f)
   unfolding node_in is_enabled
-  feature_there p kind f at stands = ap (option_and_then (node_in (Some f))) at
+  feature_there p kind f at holds = ap (option_and_then (node_in (Some f))) at
       ∙ ap (λ b. cond b (Some (record { place = p.place; feature = Some f })) None)
-      (any_from (same_text f) p.enabled f stands ((bytes_eq-Decides f f).1 refl))
+      (any_from (same_text f) p.enabled f holds ((bytes_eq-Decides f f).1 refl))
 
   own_there : (p : Crate) (f : List ℕ) → slice_get g.crates p.place ≡ Some p → Contains p.enabled f
       → IsSource g (from_own p f)
   unfolding node_in is_enabled
-  own_there p f at stands = ap (option_and_then (node_in (Some f))) at
+  own_there p f at holds = ap (option_and_then (node_in (Some f))) at
       ∙ ap (λ b. cond b (Some (record { place = p.place; feature = Some f })) None)
-      (any_from (same_text f) p.enabled f stands ((bytes_eq-Decides f f).1 refl))
+      (any_from (same_text f) p.enabled f holds ((bytes_eq-Decides f f).1 refl))
 
   one_crate : (b : Bool) (p : Crate) (kind : DepKind) (i : Incoming) → slice_get g.crates p.place ≡ Some p
       → Contains (cond b (from_crate p kind ∷ []) []) i → IsSource g i
@@ -78,7 +78,7 @@ module _ (g : Graph) (placed : ArePlaced g) where
       let kind = Contains-from_flat_map (sources of.from) all_kinds i of.of in
       each of.from kind.from (dependent_at g placed c.place of.from of.member) kind.of
 
-  pub sources_there : (c : Crate) (feature : Option (List ℕ)) (i : Incoming) → slice_get g.crates c.place ≡ Some c
+  sources_there : (c : Crate) (feature : Option (List ℕ)) (i : Incoming) → slice_get g.crates c.place ≡ Some c
       → Contains (sources_at g feature c) i → IsSource g i
   unfolding sources_at own_features own_leading
   sources_there c None i at is =
@@ -99,7 +99,7 @@ module _ (g : Graph) (placed : ArePlaced g) where
             (λ p kind p_at here. to_feature_there c f p kind i p_at here) later
       ]
 
-  -- and so are those that are gathered
+  -- the collected sources are nodes of the graph
   pub all_there : (c : Crate) (feature : Option (List ℕ)) (old ps : List Parent) → slice_get g.crates c.place ≡ Some c
       → Lists parent_cmp (Contains old) ps
       → ((p : Parent) → Contains old p ↔ Contains (map (parent_of g) (sources_at g feature c)) p)

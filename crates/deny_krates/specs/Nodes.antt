@@ -10,13 +10,13 @@ use Rattle.std.specs.declared.cmp.Ordering.{Ordering}
 use Rattle.deny_base.specs.Edge.{kind_cmp, kind_number}
 use Rattle.deny_base.specs.declared.edge.DepKind.{DepKind}
 use Rattle.deny_base.specs.declared.edge.DepKind.TheVariants.{Normal, Dev, Build}
-use Rattle.deny_crate_graph.specs.Dependents.{id_at}
-use Rattle.deny_crate_graph.specs.Ids.{crate_of}
+use Rattle.deny_krates_graph.specs.Dependents.{id_at}
+use Rattle.deny_krates_graph.specs.Ids.{crate_of}
 use Rattle.deny_krates.specs.InOrder.{in_order}
 use Rattle.deny_krates.specs.declared.nodes.InEdge.{InEdge}
-use Rattle.deny_model.specs.Graph.{Crate, Dependency, Graph, dependents, leads}
-use Rattle.deny_model.specs.Resolution.{resolution}
-use Rattle.deny_model.specs.Text.{same_text}
+use Rattle.deny_spec.specs.Graph.{Crate, Dependency, Graph, dependents, leads}
+use Rattle.deny_spec.specs.Resolution.{resolution}
+use Rattle.deny_spec.specs.Text.{same_text}
 
 -- ---- nodes
 
@@ -46,19 +46,18 @@ node_at g number = unwrap_or (slice_get (nodes_of g) number) (record { place = 0
 unfoldable pub is_enabled : Crate → List ℕ → Bool
 is_enabled c feature = list_any (same_text feature) c.enabled
 
--- the node of a crate, or of an enabled feature of it
+-- the node of a crate, or of a feature of it if it is enabled
 unfoldable pub node_in : Option (List ℕ) → Crate → Option Node
 node_in None c = Some (crate_node c)
 node_in (Some feature) c = if is_enabled c feature then Some (feature_node c feature) else None
 
--- the same, of the crate of an id
+-- the node of the crate of an id, or of a feature of it if it is enabled
 unfoldable pub node_named : Graph → List ℕ → Option (List ℕ) → Option Node
 node_named g id feature = option_and_then (node_in feature) (crate_of g id)
 
 -- ---- sources of edges
 
--- where an edge comes from, and the kind of the dependency that it stands for; none where it comes from a
--- feature of the same crate
+-- the source of an edge, and the kind of the dependency; none where the source is a feature of the same crate
 pub record Incoming : Type 0 where
   pub node : Node
   pub kind : Option DepKind
@@ -72,12 +71,12 @@ from_crate p kind = record { node = crate_node p; kind = Some kind }
 abbrev pub from_feature : Crate → DepKind → List ℕ → Incoming
 from_feature p kind feature = record { node = feature_node p feature; kind = Some kind }
 
--- an edge to a node, with the node of its number
+-- the source of an edge, by the number of its node
 abbrev pub incoming_at : Graph → InEdge → Incoming
 incoming_at g e = record { node = node_at g e.node.0; kind = e.kind }
 
--- crates first, by id, and then features by name, crate id and kind; an edge without kind comes before those
--- with one. No two crates have one id, and in a graph where two had, their places would decide
+-- the order of sources: crates first, by id, and then features by name, crate id and kind; an edge without a kind
+-- is before those with one. No two crates share an id; in a graph where two did, their places would decide
 unfoldable pub incoming_cmp : Graph → Incoming → Incoming → Ordering
 incoming_cmp g =
     then_cmp (on (λ i. i.node.feature) (option_cmp (slice_cmp nat_cmp)))
@@ -86,7 +85,7 @@ incoming_cmp g =
 
 -- ---- what a feature enables
 
--- what the list of a crate's feature holds
+-- the list of a crate's feature
 unfoldable pub entries_of : Crate → List ℕ → List (List ℕ)
 entries_of c feature = unwrap_or (finite.get c.features feature) []
 
@@ -97,11 +96,11 @@ is_slash byte = byte == 47
 unfoldable pub is_plain : List ℕ → Bool
 is_plain entry = not (starts_with nat_eq entry (codes "dep:")) && not (list_any is_slash entry)
 
--- a feature's list holds another as a plain entry
+-- the list of a feature contains another as a plain entry
 unfoldable pub holds_plain : Crate → List ℕ → List ℕ → Bool
 holds_plain c other feature = is_plain other && list_any (same_text other) (entries_of c feature)
 
--- the name by which a crate's features and code know a dependency
+-- the name of a dependency in the features and the code of a crate
 unfoldable pub manifest_name : Dependency → List ℕ
 manifest_name d = unwrap_or d.rename d.name
 
@@ -153,11 +152,11 @@ has_edge g p c kind = list_any (λ e. leads p.place c.place e && (kind_number e.
 abbrev pub all_kinds : List DepKind
 all_kinds = Normal ∷ Dev ∷ Build ∷ []
 
--- an enabled feature leads to its crate
+-- each enabled feature leads to its crate
 unfoldable pub own_features : Crate → List Incoming
 own_features c = map (from_own c) c.enabled
 
--- and to an enabled feature of the crate that its list holds as a plain entry
+-- each enabled feature leads to another of its crate that its list contains as a plain entry
 unfoldable pub own_leading : Crate → List ℕ → List Incoming
 own_leading c feature = map (from_own c) (filter (holds_plain c feature) c.enabled)
 
@@ -166,7 +165,8 @@ own_leading c feature = map (from_own c) (filter (holds_plain c feature) c.enabl
 unfoldable pub leads_by_asking : Graph → Crate → List ℕ → Crate → DepKind → Bool
 leads_by_asking g c feature p kind = has_edge g p c kind && declares g p c kind (asks_for feature)
 
--- where no such feature is enabled, it leads to the crate
+-- for an edge, and a declaration of its kind that resolves to its child and asks for no enabled feature, the parent
+-- leads to the crate
 unfoldable pub leads_in_vain : Graph → Crate → Crate → DepKind → Bool
 leads_in_vain g c p kind = has_edge g p c kind && declares g p c kind (asks_in_vain c)
 
@@ -174,26 +174,26 @@ leads_in_vain g c p kind = has_edge g p c kind && declares g p c kind (asks_in_v
 unfoldable pub leads_undeclared : Graph → Crate → Crate → DepKind → Bool
 leads_undeclared g c p kind = has_edge g p c kind && not (list_any (is_of_kind kind) (declared g p c))
 
--- a feature whose list holds `n/f` or `n?/f` leads to the enabled feature f of the crate that a declaration of
+-- a feature whose list contains `n/f` or `n?/f` leads to the enabled feature f of the crate that a declaration of
 -- n resolves to, with the declaration's kind
 unfoldable pub feature_leads : Graph → Crate → List ℕ → Crate → DepKind → List ℕ → Bool
 feature_leads g c feature p kind from =
     declares g p c kind (λ d. list_any (leads_over d feature) (entries_of p from))
 
--- ---- the sources at a node
+-- ---- the sources of a node
 
--- of a crate, those of one parent and kind
+-- the sources of a crate that are one parent with one kind
 unfoldable pub sources_of_crate : Graph → Crate → Crate → DepKind → List Incoming
 sources_of_crate g c p kind =
     if leads_in_vain g c p kind || leads_undeclared g c p kind then from_crate p kind ∷ [] else []
 
--- of a feature of it
+-- the sources of a feature that are one parent, or a feature of it, with one kind
 unfoldable pub sources_of_feature : Graph → Crate → List ℕ → Crate → DepKind → List Incoming
 sources_of_feature g c feature p kind =
     (if leads_by_asking g c feature p kind then from_crate p kind ∷ [] else [])
     ++ map (from_feature p kind) (filter (feature_leads g c feature p kind) p.enabled)
 
--- a declaration resolves along an edge only, so that parents are direct dependents
+-- the sources that are direct dependents or their features: a declaration resolves along an edge only
 unfoldable pub of_parents : Graph → Crate → (Crate → DepKind → List Incoming) → List Incoming
 of_parents g c sources = flat_map (λ p. flat_map (sources p) all_kinds) (dependents g c.place)
 

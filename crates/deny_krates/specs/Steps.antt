@@ -1,7 +1,7 @@
 -- Steps along the edges of a graph.
 use Rattle.std.specs.Prelude.{◌≡◌, ℕ, Contains}
 use Rattle.deny_base.specs.declared.edge.Edge.{Edge}
-use Rattle.deny_model.specs.Graph.{Graph}
+use Rattle.deny_spec.specs.Graph.{Graph}
 
 -- an edge leads from one place to another
 abbrev pub HasEdge : Graph → ℕ → ℕ → Type 0

@@ -1,4 +1,4 @@
-//! Where the edges that end at a node come from.
+//! The sources of the edges that end at a node.
 ghost use Rattle.std.specs.Prelude.{◌≡◌, if◌then◌else◌, ◌||◌, ◌++◌, ◌∷◌, ◌<◌, ◌↔◌, []};
 ghost use Rattle.std.specs.Prelude.{IfOk, OnOk, Some, None, Contains, filter, length, map, not, slice_get};
 ghost use Rattle.std.specs.Cmp.{IsTotalOrder};
@@ -7,24 +7,25 @@ ghost use Rattle.std.specs.List.{flat_map, list_any};
 ghost use Rattle.std.specs.List.Sorted.{IsStrictlySortedBy};
 ghost use Rattle.std.specs.Cmp.Lexicographic.{slice_cmp};
 ghost use Rattle.std.specs.Ordering.{nat_cmp};
-ghost use Rattle.deny_crate_graph.specs.Crates.{crate_view, dependency_view};
+ghost use Rattle.deny_krates_graph.specs.Crates.{crate_view, dependency_view};
 ghost use Rattle.deny_krates.specs.Nodes.{all_kinds, asks_in_vain, feature_leads, is_of_kind};
 ghost use Rattle.deny_krates.specs.Nodes.{holds_plain, leads_by_asking, leads_in_vain, leads_undeclared};
 ghost use Rattle.deny_krates.specs.Nodes.{sources_at, sources_of_crate, sources_of_feature};
 ghost use Rattle.deny_krates.specs.private.Sources.{any_there, is_led_over, passes_there};
 ghost use Rattle.deny_krates.specs.private.Sources.{parent_cmp, parent_in, parent_of};
 ghost use Rattle.deny_krates.specs.declared.incoming.Parent.{Parent};
-ghost use Rattle.deny_model.specs.Graph.{Crate};
+ghost use Rattle.deny_spec.specs.Graph.{Crate};
 
 use crate::krates::Krates;
 use crate::leads::{any_asks_for, any_asks_in_vain, any_led_over, holds_plain, is_declared};
 use crate::resolved::ResolvedAt;
 use deny_base::{DepKind, edge_order};
-use deny_crate_graph::{Dependency, Krate};
-use deny_lists::{List, NoMemory, Text};
+use deny_base_lists::{List, NoMemory, Text};
+use deny_krates_graph::{Dependency, Krate};
 use std::alloc::Global;
 
-/// Where an edge comes from: a crate, or a feature of it, with the crate's id, and the kind of the dependency.
+/// The source of an edge: a crate, or a feature of it, with the id of the crate and the kind of the
+/// dependency.
 #[derive(PartialEq, Eq, PartialOrd, Ord, Drop)]
 pub struct Parent {
     pub feature: Option<Text>,
@@ -42,7 +43,7 @@ pub fn parent_order()
     edge_order();
 }
 
-/// Where the edges that end at a crate come from.
+/// The sources of the edges that end at a crate.
 pub fn parents_of_crate(
     alloc: Global,
     krates: &Krates,
@@ -61,7 +62,7 @@ pub fn parents_of_crate(
     Ok(parents)
 }
 
-/// Where the edges that end at an enabled feature of a crate come from.
+/// The sources of the edges that end at an enabled feature of a crate.
 pub fn parents_of_feature(
     alloc: Global,
     krates: &Krates,
@@ -86,7 +87,7 @@ pub fn parents_of_feature(
     Ok(parents)
 }
 
-// Adds the enabled features of a crate.
+// Appends the enabled features of a crate.
 fn add_own(krate: &Krate, place: u32, parents: &mut List<Parent>) -> Result<(), NoMemory>
     ensures { OnOk result (parents.new ≡ parents.old
         ++ map (λ f. parent_in (crate_view place krate.now) None (Some f)) krate.now.enabled) }
@@ -98,7 +99,7 @@ fn add_own(krate: &Krate, place: u32, parents: &mut List<Parent>) -> Result<(), 
     Ok(())
 }
 
-// Adds those whose lists hold a feature as a plain entry.
+// Appends the enabled features of a crate whose lists contain another feature as a plain entry.
 fn add_own_leading(
     krate: &Krate,
     place: u32,
@@ -136,7 +137,7 @@ fn push_feature(
     })
 }
 
-// Adds what leads from one crate to another.
+// Appends the sources of the edges from one crate to another.
 fn add_crate_edges(
     krates: &Krates,
     child: u32,
@@ -155,7 +156,7 @@ fn add_crate_edges(
     Ok(())
 }
 
-// The same, by an edge of this kind.
+// Appends the sources of the edges from one crate to another, where an edge of this kind leads there.
 fn add_crate_edges_of_kind(
     krates: &Krates,
     child: u32,
@@ -208,8 +209,8 @@ fn add_krate(
     })
 }
 
-// Whether an edge of this kind leads from one crate to another, and none of the declarations that it stands
-// for asks for an enabled feature, or there are none.
+// Whether an edge of this kind leads from one crate to another, and a declaration of this kind asks for no
+// feature that is enabled there, or there is no declaration of this kind.
 fn leads_to_crate(krates: &Krates, child: u32, parent: u32, kind: DepKind) -> bool
     requires child { child < length krates.now.crates }
     requires parent { parent < length krates.now.crates }
@@ -225,8 +226,8 @@ fn leads_to_crate(krates: &Krates, child: u32, parent: u32, kind: DepKind) -> bo
     leaves_crate(run, declarations, kind, &all[child as usize])
 }
 
-// Whether one of the declarations at these indices asks for no feature that is enabled in the crate, or none
-// is of this kind.
+// Whether one of the declarations at these indices is of this kind and asks for no feature that is enabled in
+// the crate, or none is of this kind.
 fn leaves_crate(
     run: &[ResolvedAt],
     declarations: &[Dependency],
@@ -241,7 +242,7 @@ fn leaves_crate(
     any_asks_in_vain(run, declarations, kind, krate) || !is_declared(run, declarations, kind)
 }
 
-// Adds what leads from one crate, and its features, to a feature of another.
+// Appends the sources of the edges from one crate and its features to a feature of another.
 fn add_feature_edges(
     krates: &Krates,
     child: u32,
@@ -261,7 +262,8 @@ fn add_feature_edges(
     Ok(())
 }
 
-// The same, by declarations of this kind.
+// Appends the sources of the edges from one crate and its features to a feature of another, by declarations
+// of this kind.
 fn add_feature_edges_of_kind(
     krates: &Krates,
     child: u32,
@@ -282,7 +284,7 @@ fn add_feature_edges_of_kind(
     Ok(())
 }
 
-// Adds a crate if it asks for a feature of another.
+// Appends a crate if a declaration of this kind asks for a feature of another.
 fn add_asking(
     krates: &Krates,
     child: u32,
@@ -318,7 +320,8 @@ fn leads_by_asking(krates: &Krates, child: u32, feature: &str, parent: u32, kind
     any_asks_for(run, declarations, kind, feature)
 }
 
-// Adds the enabled features of a crate whose lists lead over a declaration to a feature of another.
+// Appends the enabled features of a crate whose lists lead over a declaration of this kind to a feature of
+// another.
 fn add_features(
     krates: &Krates,
     child: u32,
@@ -340,7 +343,7 @@ fn add_features(
     Ok(())
 }
 
-// Adds those whose lists lead over one of the declarations at these indices.
+// Appends the enabled features of a crate whose lists lead over one of the declarations at these indices.
 fn add_led_over(
     run: &[ResolvedAt],
     krate: &Krate,

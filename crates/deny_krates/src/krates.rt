@@ -4,33 +4,33 @@ ghost use Rattle.std.specs.Cmp.Lexicographic.{slice_cmp};
 ghost use Rattle.std.specs.List.Sorted.{IsStrictlySortedBy};
 ghost use Rattle.std.specs.Option.{option_and_then};
 ghost use Rattle.std.specs.Ordering.{nat_cmp};
-ghost use Rattle.deny_model.specs.Groups.{has_name};
-ghost use Rattle.deny_crate_graph.specs.Bounds.{lock_length, node_count};
-ghost use Rattle.deny_crate_graph.specs.Crates.{crate_view, crates_from, graph_of};
-ghost use Rattle.deny_crate_graph.specs.Orderly.{IsOrderly};
+ghost use Rattle.deny_spec.specs.Groups.{has_name};
+ghost use Rattle.deny_krates_graph.specs.Bounds.{lock_length, node_count};
+ghost use Rattle.deny_krates_graph.specs.Crates.{crate_view, crates_from, graph_of};
+ghost use Rattle.deny_krates_graph.specs.Orderly.{IsOrderly};
 ghost use Rattle.deny_krates.specs.private.NodeNumbers.{first_features_of};
 ghost use Rattle.deny_krates.specs.private.Resolved.{AreBetween};
-ghost use Rattle.deny_resolve.specs.Checked.{checked};
-ghost use Rattle.deny_crate_graph.specs.Read.{IsGraphOf, IsSound, graph_read};
-ghost use Rattle.deny_lists.specs.Reader.{Fails, IsFault};
-ghost use Rattle.deny_crate_graph.specs.Dependents.{AreDirectDependencies, AreDirectDependents};
-ghost use Rattle.deny_crate_graph.specs.Filtered.{AreMarks};
-ghost use Rattle.deny_crate_graph.specs.Ids.{crate_of};
+ghost use Rattle.deny_krates_sources.specs.Checked.{checked};
+ghost use Rattle.deny_krates_graph.specs.Read.{IsGraphOf, IsSound, graph_read};
+ghost use Rattle.deny_base_lists.specs.Reader.{Fails, IsFault};
+ghost use Rattle.deny_krates_graph.specs.Dependents.{AreDirectDependencies, AreDirectDependents};
+ghost use Rattle.deny_krates_graph.specs.Filtered.{AreMarks};
+ghost use Rattle.deny_krates_graph.specs.Ids.{crate_of};
 ghost use Rattle.deny_base.specs.Edge.{edge_cmp};
-ghost use Rattle.deny_model.specs.Graph.{Graph};
-ghost use Rattle.deny_model.specs.Resolution.{declaration_at, resolution};
+ghost use Rattle.deny_spec.specs.Graph.{Graph};
+ghost use Rattle.deny_spec.specs.Resolution.{declaration_at, resolution};
 
 use crate::names::run_of;
 use crate::numbers::first_features;
 use crate::resolution::{declared, resolution};
 use crate::resolved::{ResolvedAt, resolved_between, resolved_of};
 use deny_base::{DepKind, Edge, Kid, edge_order};
-use deny_crate_graph::{
-    CrateGraph, DirectDependent, Entry, Krate, graph_at, place_of, reached_without,
+use deny_base_lists::{List, NoMemory, Text};
+use deny_krates_graph::{
+    CrateGraph, DirectDependent, IdEntry, Krate, graph_at, place_of, reached_without,
 };
-use deny_lists::{List, NoMemory, Text};
-use deny_metadata::MetadataFault;
-use deny_model::TargetEdge;
+use deny_krates_metadata::MetadataFault;
+use deny_spec::TargetEdge;
 use std::alloc::Global;
 use std::marker::Model;
 use std::ops::Range;
@@ -47,7 +47,7 @@ pub struct Krates {
     target_edges: List<TargetEdge>,
     dependents: List<List<DirectDependent>>,
     dependencies: List<List<DirectDependent>>,
-    ids: List<Entry>,
+    ids: List<IdEntry>,
     starts: List<u32>,
     resolved: List<ResolvedAt>,
 }
@@ -57,14 +57,14 @@ impl Model for Krates {
     ghost use Rattle.std.specs.Cmp.Lexicographic.{slice_cmp};
     ghost use Rattle.std.specs.FinMap as finite;
     ghost use Rattle.std.specs.Ordering.{nat_cmp};
-    ghost use Rattle.deny_model.specs.Graph.{Graph};
+    ghost use Rattle.deny_spec.specs.Graph.{Graph};
 
     ghost Value = { Graph };
 
     ghost coded = { Prim.hlevel
         (codes, finite.code {R = slice_cmp nat_cmp} (coded_list coded_ℕ) (coded_list (coded_list coded_ℕ))) };
 
-    ghost use Rattle.deny_crate_graph.specs.Crates.{graph_of};
+    ghost use Rattle.deny_krates_graph.specs.Crates.{graph_of};
     ghost use Rattle.deny_krates.specs.private.Kept.{IsKept};
 
     ghost view = { λ k. graph_of k.target_edges k.root k.krates k.members k.edges };
@@ -74,14 +74,14 @@ impl Model for Krates {
 }
 
 impl Krates {
-    /// The graph of metadata: a text in UTF-8 that is JSON. Its crates are those that a member reaches
-    /// by dependencies of any kind.
+    /// Reads the graph of metadata, which is JSON in UTF-8. Its crates are those that a member reaches by
+    /// dependencies of any kind.
     ///
-    /// A fault is the first of the order of `MetadataFault`, and of two of a kind the one that is read
-    /// first, wherever it stands in the text: of members of another form those of the root, then those
-    /// of package after package, then those of node after node, each in the order of the definitions;
-    /// of ids that stand twice those of packages, then those of nodes; of ids that lead nowhere those of
-    /// members, then those of node after node; of the others package after package.
+    /// The fault is the first in the order of `MetadataFault`. Of several of one variant it is the one that
+    /// is read first, wherever it is in the text. Members are read in the root, then package by package,
+    /// then node by node, each in the order of the definitions. Duplicate ids are looked for among the
+    /// packages, then among the nodes; dangling ids among the members, then node by node; faults of the
+    /// other variants package by package.
     pub fn build(alloc: Global, bytes: &[u8]) -> Result<Krates, MetadataFault>
         requires { length bytes.now < 2 ^ 28 }
         ensures ok { IfOk result (IsGraphOf bytes.now) }
@@ -91,8 +91,8 @@ impl Krates {
         Ok(finish(alloc, graph)?)
     }
 
-    /// The crates in order. Their lock text and their nodes, a crate and its enabled features, are within
-    /// the bounds that later calls count with.
+    /// The crates in order. The length of their lock text is within a bound, and so is the number of their
+    /// nodes, which are the crates and their enabled features.
     pub fn krates(&self) -> &[Krate]
         ensures crates { crates_from 0 result.now ≡ self.now.crates }
         ensures few { length result.now < 2 ^ 28 }
@@ -103,7 +103,7 @@ impl Krates {
         self.krates.as_slice()
     }
 
-    /// The places of the crates of a name, which stand side by side.
+    /// The places of the crates of a name, which are consecutive.
     pub fn places_by_name(&self, name: &str) -> Range<u32>
         ensures upward { result.start ≤ result.end }
         ensures within { result.end ≤ length self.now.crates }
@@ -221,8 +221,8 @@ impl Krates {
         Some(krate.enabled.as_slice())
     }
 
-    /// Marks for the crates by their places: whether a member reaches a crate by dependencies of
-    /// other kinds than `kind`. A member reaches itself.
+    /// For each crate, by its place, whether a member reaches it by dependencies of other kinds than `kind`.
+    /// A member reaches itself.
     pub fn krates_filtered(&self, alloc: Global, kind: DepKind) -> Result<Vec<bool>, NoMemory>
         ensures { IfOk result (λ marks. AreMarks kind self.now marks.items) }
     {
@@ -237,7 +237,7 @@ impl Krates {
     }
 }
 
-// A graph with what is kept of its crates' features and declarations.
+// The graph with the numbers of its first features and its resolved declarations.
 fn finish(alloc: Global, graph: CrateGraph) -> Result<Krates, NoMemory>
     requires { IsSound graph }
     ensures { IfOk result (λ g. g ≡ graph_read graph) }
@@ -262,7 +262,7 @@ fn finish(alloc: Global, graph: CrateGraph) -> Result<Krates, NoMemory>
     })
 }
 
-// Whether a list that ascends holds an edge.
+// Whether an ascending list contains an edge.
 fn has(edges: &[Edge], edge: &Edge) -> bool
     requires { IsStrictlySortedBy edge_cmp edges.now }
     ensures { IsTrue result ↔ Contains edges.now edge.now }

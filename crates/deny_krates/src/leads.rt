@@ -1,21 +1,21 @@
-//! What leads from one node to another: lists of features, and declarations.
+//! How lists of features and declarations lead from one node to another.
 ghost use Rattle.std.specs.Prelude.{◌≡◌, ◌&&◌, ◌++◌, IfSome, IfNone, Some, false, codes, map, slice_get};
 ghost use Rattle.std.specs.Cmp.Lexicographic.{slice_cmp};
 ghost use Rattle.std.specs.List.{list_any};
 ghost use Rattle.std.specs.List.Sorted.{IsStrictlySortedBy};
 ghost use Rattle.std.specs.Ordering.{nat_cmp};
-ghost use Rattle.deny_crate_graph.specs.Crates.{crate_view, dependency_view};
+ghost use Rattle.deny_krates_graph.specs.Crates.{crate_view, dependency_view};
 ghost use Rattle.deny_krates.specs.Nodes.{asks_for, asks_in_vain, entries_of, holds_plain};
 ghost use Rattle.deny_krates.specs.Nodes.{is_called, is_of_kind, is_plain, leads_over, manifest_name};
 ghost use Rattle.deny_krates.specs.private.Sources.{any_there, asks_for_none, is_led_over, passes_there};
-ghost use Rattle.deny_model.specs.Text.{same_text};
+ghost use Rattle.deny_spec.specs.Text.{same_text};
 
 use crate::resolved::ResolvedAt;
 use deny_base::DepKind;
-use deny_crate_graph::{Dependency, Krate};
-use deny_lists::Text;
+use deny_base_lists::Text;
+use deny_krates_graph::{Dependency, Krate};
 
-/// Where a text stands in a list that ascends.
+/// The index of a text in an ascending list.
 pub fn index_of(texts: &[Text], text: &str) -> Option<usize>
     requires { IsStrictlySortedBy (slice_cmp nat_cmp) texts.now }
     ensures found { IfSome result (λ index. slice_get texts.now index ≡ Some text.now) }
@@ -37,7 +37,7 @@ fn has(texts: &[Text], text: &str) -> bool
     }
 }
 
-/// Whether the list of a crate's feature holds another one as a plain entry.
+/// Whether the list of a crate's feature contains another feature as a plain entry.
 #[tactic(auto, unfolding(crate::specs::Nodes::holds_plain, crate::specs::Nodes::entries_of))]
 pub fn holds_plain(krate: &Krate, other: &str, feature: &Text) -> bool
     ensures { result ≡ holds_plain (crate_view 0 krate.now) other.now feature.now }
@@ -85,7 +85,7 @@ fn is_of_kind_at(declarations: &[Dependency], at: &ResolvedAt, kind: DepKind) ->
     }
 }
 
-/// Whether one of those asks for a feature.
+/// Whether one of the declarations at these indices is of this kind and asks for a feature.
 pub fn any_asks_for(
     run: &[ResolvedAt],
     declarations: &[Dependency],
@@ -116,7 +116,8 @@ fn asks_for(declaration: &Dependency, feature: &str) -> bool
         || (declaration.uses_default_features && feature == "default")
 }
 
-/// Whether one of those asks for no feature that is enabled in the crate.
+/// Whether one of the declarations at these indices is of this kind and asks for no feature that is enabled in
+/// the crate.
 pub fn any_asks_in_vain(
     run: &[ResolvedAt],
     declarations: &[Dependency],
@@ -162,7 +163,7 @@ fn asks_for_none(declaration: &Dependency, enabled: &[Text]) -> bool
     !asks
 }
 
-// Whether one of some texts is in a list that ascends.
+// Whether one of some texts is in an ascending list.
 fn any_has(texts: &[Text], some: &[Text]) -> bool
     requires { IsStrictlySortedBy (slice_cmp nat_cmp) texts.now }
     ensures { result ≡ list_any (λ text. list_any (same_text text) texts.now) some.now }
@@ -175,8 +176,8 @@ fn any_has(texts: &[Text], some: &[Text]) -> bool
     false
 }
 
-/// Whether one of those is of the dependency with the feature that a list names, of a feature of the crate
-/// that declares them.
+/// Whether the list of a crate's feature leads over one of its declarations at these indices, which is of this
+/// kind, to a feature of the dependency.
 #[tactic(auto, unfolding(crate::specs::private::Sources::is_led_over))]
 pub fn any_led_over(
     run: &[ResolvedAt],

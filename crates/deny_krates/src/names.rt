@@ -1,16 +1,16 @@
-//! The crates of a name, which stand side by side.
+//! The crates of a name, which are consecutive.
 ghost use Rattle.std.specs.Prelude.{◌≡◌, ◌≤◌, ◌<◌, ◌^◌, ◌-◌, ℕ, true, false, length, take, drop, filter};
 ghost use Rattle.std.specs.Cmp.Lexicographic.{slice_cmp};
 ghost use Rattle.std.specs.List.Sorted.{IsPartitionPoint, IsSortedByKey};
 ghost use Rattle.std.specs.Ordering.{nat_cmp, is_lt, is_le};
-ghost use Rattle.deny_crate_graph.specs.Crates.{crates_from};
-ghost use Rattle.deny_model.specs.Groups.{has_name};
-ghost use Rattle.deny_model.specs.Resolution.{passes_at};
+ghost use Rattle.deny_krates_graph.specs.Crates.{crates_from};
+ghost use Rattle.deny_spec.specs.Groups.{has_name};
+ghost use Rattle.deny_spec.specs.Resolution.{passes_at};
 
-use deny_crate_graph::Krate;
+use deny_krates_graph::Krate;
 use std::ops::Range;
 
-/// The places of the crates of a name, in a list that is in order of names.
+/// The places of the crates of a name, given the crates in the order of their names.
 pub fn run_of(krates: &[Krate], name: &str) -> Range<u32>
     requires few { length krates.now < 2 ^ 28 }
     requires ordered { IsSortedByKey (λ k. k.name) (slice_cmp nat_cmp) krates.now }

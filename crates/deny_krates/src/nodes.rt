@@ -5,22 +5,22 @@ ghost use Rattle.std.specs.Option.{option_copied};
 ghost use Rattle.deny_krates.specs.Nodes.{incoming_at, incoming_in, node_at, node_named, nodes_of, sources_at};
 ghost use Rattle.deny_krates.specs.private.Sources.{IsThere, node_here, parent_of, source_of};
 ghost use Rattle.deny_krates.specs.declared.incoming.Parent.{Parent};
-ghost use Rattle.deny_model.specs.Graph.{Crate};
+ghost use Rattle.deny_spec.specs.Graph.{Crate};
 
 use crate::incoming::{Parent, parent_order, parents_of_crate, parents_of_feature};
 use crate::krates::Krates;
 use crate::leads::index_of;
 use crate::numbers::owner_of;
 use deny_base::{DepKind, Kid};
-use deny_lists::{List, NoMemory, put_in_order};
+use deny_base_lists::{List, NoMemory, put_in_order};
 use std::alloc::Global;
 
 /// The number of a node of a graph: of a crate, or of an enabled feature of one. A crate's is its place.
 #[derive(Clone, Copy)]
 pub struct NodeId(pub u32);
 
-/// An edge from a node, seen from where it ends: the node that it comes from, and the kind of the
-/// dependency that it stands for; none where it comes from a feature of the same crate.
+/// An edge that ends at a node: the node that it comes from, and the kind of the dependency; none where it
+/// comes from a feature of the same crate.
 #[derive(Clone, Copy)]
 pub struct InEdge {
     pub node: NodeId,
@@ -70,8 +70,8 @@ impl Krates {
         Some(enabled[index as usize].as_str())
     }
 
-    /// The edges that end at a node, in order of where they come from: crates first, by id, and then
-    /// features by name, crate id and kind, an edge without kind before those with one.
+    /// The edges that end at a node, in the order of their sources: crates first, by id, and then features by
+    /// name, crate id and kind; an edge without a kind is before those with one.
     pub fn incoming(&self, alloc: Global, node: NodeId) -> Result<List<InEdge>, NoMemory>
         requires { node.0 < length (nodes_of self.now) }
         ensures sources { IfOk result (λ edges. map (incoming_at self.now) edges
@@ -116,7 +116,7 @@ fn feature_node(krates: &Krates, place: u32, feature: &str) -> Option<NodeId>
     Some(NodeId(start + index as u32))
 }
 
-// Where the edges that end at the node of a crate, or of a feature of it, come from.
+// The sources of the edges that end at the node of a crate or of a feature of it.
 fn parents_of(
     alloc: Global,
     krates: &Krates,

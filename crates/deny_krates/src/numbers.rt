@@ -1,14 +1,14 @@
-//! The numbers of nodes: those of crates are their places, and then come crate by crate those of
-//! their enabled features.
+//! The numbers of nodes: the number of a crate is its place, and the numbers of enabled features follow, crate
+//! by crate.
 ghost use Rattle.std.specs.Prelude.{◌≡◌, ◌<◌, ◌≤◌, ◌^◌, ℕ, List, IfOk, true, false, length, nat_le, slice_index_or};
 ghost use Rattle.std.specs.List.Sorted.{IsPartitionPoint};
-ghost use Rattle.deny_crate_graph.specs.Bounds.{node_count};
-ghost use Rattle.deny_crate_graph.specs.Crates.{crates_from};
+ghost use Rattle.deny_krates_graph.specs.Bounds.{node_count};
+ghost use Rattle.deny_krates_graph.specs.Crates.{crates_from};
 ghost use Rattle.deny_krates.specs.private.NodeNumbers.{IsLastUpTo, features_from};
-ghost use Rattle.deny_model.specs.Graph.{Crate};
+ghost use Rattle.deny_spec.specs.Graph.{Crate};
 
-use deny_crate_graph::Krate;
-use deny_lists::{List, NoMemory};
+use deny_base_lists::{List, NoMemory};
+use deny_krates_graph::Krate;
 use std::alloc::Global;
 
 /// For each crate the number of the node of its first enabled feature.
@@ -36,7 +36,7 @@ pub fn owner_of(starts: &[u32], number: u32) -> u32
     (above(starts, number) - 1) as u32
 }
 
-// The first that is above a number.
+// The index of the first of ascending numbers that is above another.
 fn above(starts: &[u32], number: u32) -> usize
     requires { (crates : List Crate) × (first : ℕ) × (starts.now ≡ features_from first crates) }
     ensures within { result ≤ length starts.now }

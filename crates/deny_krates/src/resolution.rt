@@ -4,20 +4,20 @@ ghost use Rattle.std.specs.Cmp.Lexicographic.{slice_cmp};
 ghost use Rattle.std.specs.Option.{option_and_then};
 ghost use Rattle.std.specs.List.Sorted.{IsPartitionPoint, IsSortedByKey, IsStrictlySortedBy};
 ghost use Rattle.std.specs.Ordering.{nat_cmp};
-ghost use Rattle.deny_crate_graph.specs.Crates.{crate_view, crates_from, dependency_view};
+ghost use Rattle.deny_krates_graph.specs.Crates.{crate_view, crates_from, dependency_view};
 ghost use Rattle.deny_krates.specs.private.Resolved.{is_before};
-ghost use Rattle.deny_model.specs.Graph.{Graph};
-ghost use Rattle.deny_model.specs.Groups.{has_name};
-ghost use Rattle.deny_model.specs.Resolution.{is_wanted, passes_at, resolution, suits};
-ghost use Rattle.deny_model.specs.TargetEdge.{target_edge_cmp};
+ghost use Rattle.deny_spec.specs.Graph.{Graph};
+ghost use Rattle.deny_spec.specs.Groups.{has_name};
+ghost use Rattle.deny_spec.specs.Resolution.{is_wanted, passes_at, resolution, suits};
+ghost use Rattle.deny_spec.specs.TargetEdge.{target_edge_cmp};
 
 use crate::names::run_of;
-use deny_crate_graph::{Dependency, Krate};
-use deny_lists::Text;
-use deny_model::TargetEdge;
+use deny_base_lists::Text;
+use deny_krates_graph::{Dependency, Krate};
+use deny_spec::TargetEdge;
 
-/// The place of the crate that a declaration of the crate at `parent` resolves to, in a list of
-/// target edges that ascends.
+/// The place of the crate that a declaration of the crate at `parent` resolves to, given the target edges in
+/// ascending order.
 pub fn resolution(
     krates: &[Krate],
     edges: &[TargetEdge],
@@ -38,7 +38,7 @@ pub fn resolution(
     }
 }
 
-// The edges from a place to the crates between two places, in a list that ascends.
+// The edges from a place to the crates between two places, given the edges in ascending order.
 fn edges_between(edges: &[TargetEdge], parent: u32, start: u32, end: u32) -> &[TargetEdge]
     requires ascending { IsStrictlySortedBy target_edge_cmp edges.now }
     requires upward { start ≤ end }
@@ -50,7 +50,7 @@ fn edges_between(edges: &[TargetEdge], parent: u32, start: u32, end: u32) -> &[T
     &edges[first..last]
 }
 
-// The first edge that does not come before a parent and a child.
+// The index of the first edge that is not before a parent and a child.
 fn first_from(edges: &[TargetEdge], parent: u32, child: u32) -> usize
     requires { IsStrictlySortedBy target_edge_cmp edges.now }
     ensures within { result ≤ length edges.now }
@@ -60,7 +60,7 @@ fn first_from(edges: &[TargetEdge], parent: u32, child: u32) -> usize
     edges.partition_point(|edge| is_before(edge.parent, edge.child, parent, child))
 }
 
-/// Whether the first two numbers come before the others, in order of the first ones and then the second.
+/// Whether a pair of numbers is before another, in the order of the first numbers and then of the second.
 #[tactic(auto, unfolding(crate::specs::private::Resolved::is_before))]
 pub fn is_before(first: u32, second: u32, other_first: u32, other_second: u32) -> bool
     ensures { result ≡ is_before first second other_first other_second }
@@ -96,7 +96,7 @@ fn first_suiting(krates: &[Krate], edges: &[TargetEdge], declaration: &Dependenc
 }
 
 // Whether an edge is of a declaration's kind, for its target, and leads to a crate of its name.
-#[tactic(auto, unfolding(deny_model::specs::Resolution::suits))]
+#[tactic(auto, unfolding(deny_spec::specs::Resolution::suits))]
 fn suits(krates: &[Krate], declaration: &Dependency, edge: &TargetEdge) -> bool
     ensures { result ≡ suits (crates_from 0 krates.now) (dependency_view declaration.now) edge.now }
 {
@@ -106,11 +106,11 @@ fn suits(krates: &[Krate], declaration: &Dependency, edge: &TargetEdge) -> bool
 }
 
 // Whether the crate at a place has this name.
-#[tactic(auto, unfolding(deny_model::specs::Groups::has_name))]
+#[tactic(auto, unfolding(deny_spec::specs::Groups::has_name))]
 fn is_named(krates: &[Krate], place: u32, name: &Text) -> bool
     ensures { result ≡ passes_at (has_name name.now) (crates_from 0 krates.now) place }
 {
-    match krate_at(krates, place) {
+    match placed_krate(krates, place) {
         Some(krate) => krate.name == *name,
         None => false,
     }
@@ -120,23 +120,23 @@ fn is_named(krates: &[Krate], place: u32, name: &Text) -> bool
 fn wants(krates: &[Krate], declaration: &Dependency, place: u32) -> bool
     ensures { result ≡ is_wanted (crates_from 0 krates.now) (dependency_view declaration.now) place }
 {
-    match krate_at(krates, place) {
+    match placed_krate(krates, place) {
         Some(krate) => declaration.req.matches(&krate.version),
         None => false,
     }
 }
 
-/// A declaration of the crate at a place.
+/// The declaration at an index of the crate at a place.
 pub fn declared(krates: &[Krate], place: u32, index: usize) -> Option<&Dependency>
     ensures { option_map (λ d. dependency_view d.now) result
         ≡ option_and_then (λ c. slice_get c.deps index) (slice_get (crates_from 0 krates.now) place) }
 {
-    let krate = krate_at(krates, place)?;
+    let krate = placed_krate(krates, place)?;
     krate.deps.as_slice().get(index)
 }
 
-/// The crate at a place.
-pub fn krate_at(krates: &[Krate], place: u32) -> Option<&Krate>
+/// The crate at a place of a list.
+pub fn placed_krate(krates: &[Krate], place: u32) -> Option<&Krate>
     ensures { option_map (λ k. crate_view place k.now) result ≡ slice_get (crates_from 0 krates.now) place }
 {
     krates.get(place as usize)

@@ -1,22 +1,22 @@
 //! The declarations that resolve to a crate of the graph.
 ghost use Rattle.std.specs.Prelude.{◌≡◌, ◌++◌, ◌&&◌, ◌<◌, ◌≤◌, ◌^◌, ◌+◌};
-ghost use Rattle.std.specs.Prelude.{true, false, not, IfOk, OnOk, Contains, filter, length, map};
+ghost use Rattle.std.specs.Prelude.{true, false, not, IfOk, OnOk, filter, length, map};
 ghost use Rattle.std.specs.Cmp.{IsTotalOrder};
 ghost use Rattle.std.specs.Cmp.Lexicographic.{slice_cmp};
 ghost use Rattle.std.specs.FinMap.{IsAntisymmetric};
 ghost use Rattle.std.specs.List.Sorted.{IsPartitionPoint, IsSortedByKey, IsStrictlySortedBy};
 ghost use Rattle.std.specs.Ordering.{nat_cmp};
-ghost use Rattle.deny_crate_graph.specs.Crates.{crates_from, dependency_view};
-ghost use Rattle.deny_krates.specs.private.Resolved.{AreBetween, AreResolved, is_before};
+ghost use Rattle.deny_krates_graph.specs.Crates.{crates_from, dependency_view};
+ghost use Rattle.deny_krates.specs.private.Resolved.{AreResolved, is_before};
 ghost use Rattle.deny_krates.specs.private.Resolved.{resolved_cmp, resolved_from, resolved_in};
 ghost use Rattle.deny_krates.specs.declared.resolved.ResolvedAt.{ResolvedAt};
-ghost use Rattle.deny_model.specs.Graph.{Graph};
-ghost use Rattle.deny_model.specs.TargetEdge.{target_edge_cmp};
+ghost use Rattle.deny_spec.specs.Graph.{Graph};
+ghost use Rattle.deny_spec.specs.TargetEdge.{target_edge_cmp};
 
 use crate::resolution::{is_before, resolution};
-use deny_crate_graph::{Dependency, Krate};
-use deny_lists::{List, NoMemory, put_in_order};
-use deny_model::TargetEdge;
+use deny_base_lists::{List, NoMemory, put_in_order};
+use deny_krates_graph::{Dependency, Krate};
+use deny_spec::TargetEdge;
 use std::alloc::Global;
 
 /// A declaration that resolves: the place of the crate that it resolves to, and that of the crate that
@@ -65,7 +65,7 @@ fn gather(
     Ok(resolved)
 }
 
-// Adds those of the declarations of one crate.
+// Appends the declarations of one crate that resolve.
 fn add_resolved(
     krates: &[Krate],
     edges: &[TargetEdge],
@@ -91,14 +91,14 @@ fn add_resolved(
     Ok(())
 }
 
-// The order is by child, parent and index, it is total, and only equal ones tie.
+// The order of resolved declarations is by child, parent and index, it is total, and only equal ones tie.
 fn resolved_order()
     ensures fields { (a b : ResolvedAt) → ⟦<ResolvedAt as Ord>⟧.cmp a b ≡ resolved_cmp a b }
     ensures total { IsTotalOrder resolved_cmp }
     ensures equal { IsAntisymmetric resolved_cmp }
 {}
 
-/// Those of one parent and one child, in a list that ascends.
+/// The declarations of one parent that resolve to one child, given all in ascending order.
 pub fn resolved_between(resolved: &[ResolvedAt], child: u32, parent: u32) -> &[ResolvedAt]
     requires few { parent < 2 ^ 28 }
     requires ascending { IsStrictlySortedBy resolved_cmp resolved.now }
@@ -110,7 +110,7 @@ pub fn resolved_between(resolved: &[ResolvedAt], child: u32, parent: u32) -> &[R
     &resolved[first..last]
 }
 
-// The first that does not come before a child and a parent.
+// The index of the first declaration that is not before a child and a parent.
 fn first_from(resolved: &[ResolvedAt], child: u32, parent: u32) -> usize
     requires { IsStrictlySortedBy resolved_cmp resolved.now }
     ensures within { result ≤ length resolved.now }

@@ -1,4 +1,4 @@
--- The keys of what stands of packages are of crates.
+-- The keys of packages are in the section of crates.
 use Rattle.std.proofs.Common.{◌≡◌, ◌++◌, ◌∷◌, ℕ, Bool, true, false, List, [], None, Option, Some, refl}
 use Rattle.std.specs.List.{AllByRecursion, flat_map}
 use Rattle.std.specs.Option.{option_map_or}
@@ -9,24 +9,24 @@ use Rattle.deny_base.specs.declared.key.Key.{Key}
 use Rattle.deny_base.specs.declared.key.Section.TheVariants as section
 use Rattle.deny_base.specs.declared.span.Span.{Span}
 use Rattle.deny_base.specs.declared.span.Spanned.{Spanned}
-use Rattle.deny_build_model.specs.Building.{AllowedPath, Bypass}
-use Rattle.deny_build_model.specs.declared.package.Package.{Package}
-use Rattle.deny_build_model.specs.declared.package.PackageFile.{PackageFile}
-use Rattle.deny_build_model.specs.declared.package.Seen.{Seen}
-use Rattle.deny_lists.proofs.Each.{all_append, all_flat, all_mapped, all_from_members}
-use Rattle.deny_lists.proofs.Members.{at_member}
-use Rattle.deny_model.specs.Graph.{Crate}
-use Rattle.deny_model.specs.Keys.{crate_key, key_of, no_span}
-use Rattle.deny_model.specs.Policy as policy
-use Rattle.deny_codes.specs.BuildScripts.{bypass_range, is_script_denied, is_script_right, required_enabled}
-use Rattle.deny_codes.specs.BuildScripts.{required_unknown, used, wanted_sum}
-use Rattle.deny_codes.specs.PackageFiles.{ChecksumMatch, ChecksumMismatch, Class, DeniedByExtension, DetectedExecutable}
-use Rattle.deny_codes.specs.PackageFiles.{DetectedExecutableScript, Harmless, PathBypassed, PathBypassedByGlob}
-use Rattle.deny_codes.specs.PackageFiles.{UnableToCheckPath, class_of, path_range}
-use Rattle.deny_codes.specs.Packages.{Looking, checks, class_keys, denied_script_keys, features_enabled_keys, file_keys}
-use Rattle.deny_codes.specs.Packages.{folder_key, package_keys, package_of, path_key, right_script_keys, script_keys}
-use Rattle.deny_codes.specs.Packages.{script_shown, sum_keys, unmatched_glob_keys, unmatched_keys, unmatched_path_keys}
-use Rattle.deny_codes.specs.Packages.{walked_keys, walks}
+use Rattle.deny_spec.specs.Building.{AllowedPath, Bypass}
+use Rattle.deny_spec.specs.declared.package.Package.{Package}
+use Rattle.deny_spec.specs.declared.package.PackageFile.{PackageFile}
+use Rattle.deny_spec.specs.declared.package.Seen.{Seen}
+use Rattle.deny_base_lists.proofs.Each.{all_append, all_flat, all_mapped, all_from_members}
+use Rattle.deny_base_lists.proofs.Members.{at_member}
+use Rattle.deny_spec.specs.Graph.{Crate}
+use Rattle.deny_spec.specs.Keys.{crate_key, key_of, no_span}
+use Rattle.deny_spec.specs.Policy as policy
+use Rattle.deny_spec_report.specs.BuildScripts.{bypass_span, is_script_denied, is_script_right, required_enabled}
+use Rattle.deny_spec_report.specs.BuildScripts.{required_unknown, used, wanted_sum}
+use Rattle.deny_spec_report.specs.PackageFiles.{ChecksumMatch, ChecksumMismatch, Class, DeniedByExtension}
+use Rattle.deny_spec_report.specs.PackageFiles.{DetectedExecutable, DetectedExecutableScript, Harmless, PathBypassed}
+use Rattle.deny_spec_report.specs.PackageFiles.{PathBypassedByGlob, UnableToCheckPath, class_of, path_span}
+use Rattle.deny_spec_report.specs.Packages.{Scanning, checks, class_keys, denied_script_keys, features_enabled_keys}
+use Rattle.deny_spec_report.specs.Packages.{file_keys, folder_key, package_keys, package_of, path_key}
+use Rattle.deny_spec_report.specs.Packages.{right_script_keys, script_keys, script_shown, sum_keys, unmatched_glob_keys}
+use Rattle.deny_spec_report.specs.Packages.{unmatched_keys, unmatched_path_keys, walked_keys, walks}
 
 abbrev IsOfCrates : Key → Type 0
 IsOfCrates key = key.section ≡ section.Crates
@@ -42,7 +42,7 @@ path_is : (d : Code) (place : ℕ) (entry : Span) (shown : List ℕ) → IsOfCra
 unfolding path_key key_of
 path_is d place entry shown = refl
 
--- ---- lists of them
+-- ---- lists of keys
 
 of_map : {X : Type 0} (f : X → Key) (xs : List X) → ((x : X) → IsOfCrates (f x)) → Are (map f xs)
 of_map f xs each = all_mapped IsOfCrates f xs (all_from_members (λ x. IsOfCrates (f x)) xs (λ x is. each x))
@@ -59,21 +59,21 @@ of_option : {X : Type 0} (f : X → List Key) (o : Option X) → ((x : X) → Ar
 of_option f None each = tt
 of_option f (Some x) each = each x
 
--- ---- of a crate
+-- ---- the keys of a crate
 
-module _ (l : Looking) (c : Crate) where
-  right_are : (range : Span) → Are (right_script_keys l c range)
+module _ (l : Scanning) (c : Crate) where
+  right_are : (span : Span) → Are (right_script_keys l c span)
   unfolding right_script_keys
-  right_are range = (
-    path_is code.ChecksumMatch c.place range (script_shown (package_of l c)),
-    of_map (λ (w : policy.Words). crate_key code.UnknownFeature c.place w.span) (required_unknown l.building c)
+  right_are span = (
+    path_is code.ChecksumMatch c.place span (script_shown (package_of l c)),
+    of_map (λ (w : policy.SpannedText). crate_key code.UnknownFeature c.place w.span) (required_unknown l.building c)
         (λ w. crate_is code.UnknownFeature c.place w.span),
   )
 
-  enabled_are : (o : Option Bypass) (enabled : List policy.Words) → Are (features_enabled_keys c.place o enabled)
+  enabled_are : (o : Option Bypass) (enabled : List policy.SpannedText) → Are (features_enabled_keys c.place o enabled)
   enabled_are None enabled = tt
   enabled_are (Some y) [] = tt
-  enabled_are (Some y) (w ∷ ws) = (crate_is code.FeaturesEnabled c.place (bypass_range y), tt)
+  enabled_are (Some y) (w ∷ ws) = (crate_is code.FeaturesEnabled c.place (bypass_span y), tt)
 
   sum_are : (sum : Spanned (List ℕ)) → Are (sum_keys l c sum)
   unfolding sum_keys
@@ -97,10 +97,10 @@ module _ (l : Looking) (c : Crate) where
       (crate_is code.BuildScriptNotAllowed c.place no_span, tt) tt
 
   class_are : (shown : List ℕ) (class : Class) → Are (class_keys c.place shown class)
-  class_are shown (PathBypassed range) = (path_is code.PathBypassed c.place range shown, tt)
+  class_are shown (PathBypassed span) = (path_is code.PathBypassed c.place span shown, tt)
   class_are shown PathBypassedByGlob = (path_is code.PathBypassedByGlob c.place no_span shown, tt)
-  class_are shown (ChecksumMatch range) = (path_is code.ChecksumMatch c.place range shown, tt)
-  class_are shown (ChecksumMismatch range) = (path_is code.ChecksumMismatch c.place range shown, tt)
+  class_are shown (ChecksumMatch span) = (path_is code.ChecksumMatch c.place span shown, tt)
+  class_are shown (ChecksumMismatch span) = (path_is code.ChecksumMismatch c.place span shown, tt)
   class_are shown DeniedByExtension = (path_is code.DeniedByExtension c.place no_span shown, tt)
   class_are shown UnableToCheckPath = (path_is code.UnableToCheckPath c.place no_span shown, tt)
   class_are shown DetectedExecutable = (path_is code.DetectedExecutable c.place no_span shown, tt)
@@ -116,12 +116,12 @@ module _ (l : Looking) (c : Crate) where
 
   paths_are : (contents : Package) (y : Bypass) → Are (unmatched_path_keys contents c.place y)
   unfolding unmatched_path_keys
-  paths_are contents y = of_map (λ (a : AllowedPath). crate_key code.UnmatchedPathBypass c.place (path_range a)) _
-      (λ a. crate_is code.UnmatchedPathBypass c.place (path_range a))
+  paths_are contents y = of_map (λ (a : AllowedPath). crate_key code.UnmatchedPathBypass c.place (path_span a)) _
+      (λ a. crate_is code.UnmatchedPathBypass c.place (path_span a))
 
   globs_are : (contents : Package) (y : Bypass) → Are (unmatched_glob_keys contents c.place y)
   unfolding unmatched_glob_keys
-  globs_are contents y = of_map (λ (w : policy.Words). crate_key code.UnmatchedGlob c.place w.span) _
+  globs_are contents y = of_map (λ (w : policy.SpannedText). crate_key code.UnmatchedGlob c.place w.span) _
       (λ w. crate_is code.UnmatchedGlob c.place w.span)
 
   unmatched_are : (y : Bypass) → Are (unmatched_keys l c y)
@@ -143,7 +143,7 @@ module _ (l : Looking) (c : Crate) where
       (all_append IsOfCrates (denied_script_keys l c) _ denied_are
       (of_if (walks l c) (walked_keys l c) [] walked_are tt))
 
-pub key_of_crates : (l : Looking) (key : Key) → Contains (flat_map (package_keys l) l.graph.crates) key
+pub key_of_crates : (l : Scanning) (key : Key) → Contains (flat_map (package_keys l) l.graph.crates) key
     → key.section ≡ section.Crates
 key_of_crates l key at = at_member IsOfCrates (flat_map (package_keys l) l.graph.crates) key
     (of_flat (package_keys l) l.graph.crates (package_are l)) at

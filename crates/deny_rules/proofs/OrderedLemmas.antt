@@ -1,4 +1,4 @@
--- The members of any list stand in an ascending one.
+-- The members of any list, in an ascending one.
 use Rattle.std.proofs.Common.{List, [], inl, inr, refl, subst, sym, ◌∙◌, ◌∷◌, ◌≡◌, ◌⊎◌, ap}
 use Rattle.std.specs.Cmp.{IsTotalOrder}
 use Rattle.std.specs.FinMap.{IsAntisymmetric}
@@ -7,18 +7,18 @@ use Rattle.std.specs.Ordering.{ordering_reverse}
 use Rattle.std.specs.Prelude.{Contains}
 use Rattle.std.specs.declared.cmp.Ordering.{Ordering}
 use Rattle.std.specs.declared.cmp.Ordering.TheVariants.{Equal, Greater, Less}
-use Rattle.deny_codes.proofs.Parts.{lists_same}
-use Rattle.deny_lists.proofs.Each.{all_weaker, all_from_members}
-use Rattle.deny_lists.proofs.Members.{Contains-cases, Contains-first, Contains-rest, at_member, no_member}
-use Rattle.deny_lists.specs.Ascending.{Lists}
+use Rattle.deny_spec_report.proofs.Parts.{lists_same}
+use Rattle.deny_base_lists.proofs.Each.{all_weaker, all_from_members}
+use Rattle.deny_base_lists.proofs.Members.{Contains-cases, Contains-first, Contains-rest, at_member, no_member}
+use Rattle.deny_base_lists.specs.Ascending.{Lists}
 
--- a list of exactly what is so
+-- an ascending list of exactly the members of a predicate
 pub record Ordered {T : Type 0} (cmp : T → T → Ordering) (P : T → Type 0) : Type 0 where
   pub list : List T
   pub listed : Lists cmp P list
 
 module _ {T : Type 0} {cmp : T → T → Ordering} (total : IsTotalOrder cmp) (exact : IsAntisymmetric cmp) where
-  -- one more, or one of these
+  -- an element, or one of the others
   abbrev IsOneOf : T → List T → T → Type 0
   IsOneOf x ys z = (x ≡ z) ⊎ Contains ys z
 

@@ -1,4 +1,5 @@
--- What stands in the sections of the bans check: what its rules give, a line a rule, and behind it replaced crates.
+-- The keys in the sections of the bans check: those of its rules, a line for each rule, and behind them those of
+-- replaced crates.
 use Rattle.std.proofs.Common.{◌≡◌, ◌<◌, ◌++◌, ◌⊎◌, ℕ, Bool, true, false, List, [], arith, inl, inr, refl, subst, sym}
 use Rattle.std.specs.List.{AllByRecursion, flat_map}
 use Rattle.std.specs.Option.{option_map_or}
@@ -6,11 +7,11 @@ use Rattle.std.specs.Prelude.{◌||◌, Contains, IsTrue, None, Option, Some, fi
 use Rattle.std.specs.declared.cmp.Ordering.TheVariants.{Less}
 use Rattle.std.proofs.lemmas.Bool.{false≢true}
 use Rattle.std.proofs.lemmas.List.Elements.{Contains-append_cases}
-use Rattle.deny_lists.specs.Ascending.{Adds, Lists}
-use Rattle.deny_lists.proofs.Adding.{adds_then}
-use Rattle.deny_lists.proofs.Members.{Contains-flat_map, Contains-from_flat_map, at_member, no_member}
-use Rattle.deny_base.specs.Code.{code_number, diagnostic_code_cmp, diagnostic_code_number, is_of_builds, is_told_here}
-use Rattle.deny_base.specs.Code.{section_cmp, section_number}
+use Rattle.deny_base_lists.specs.Ascending.{Adds, Lists}
+use Rattle.deny_base_lists.proofs.Adding.{adds_then}
+use Rattle.deny_base_lists.proofs.Members.{Contains-flat_map, Contains-from_flat_map, at_member, no_member}
+use Rattle.deny_base.specs.Code.{code_number, diagnostic_code_cmp, diagnostic_code_number, is_of_builds}
+use Rattle.deny_base.specs.Code.{is_reported_here, section_cmp, section_number}
 use Rattle.deny_base.specs.KeyOrder.{key_cmp}
 use Rattle.deny_base.specs.declared.code.Code.{Code}
 use Rattle.deny_base.specs.declared.code.Code.TheVariants as code
@@ -20,85 +21,86 @@ use Rattle.deny_base.specs.declared.key.Key.{Key}
 use Rattle.deny_base.specs.declared.key.Section.{Section}
 use Rattle.deny_base.specs.declared.key.Section.TheVariants as section
 use Rattle.deny_base.proofs.CodeEqual.{each_code}
-use Rattle.deny_model.specs.Duplicates.{IsDuplicate}
-use Rattle.deny_build_model.specs.Building.{Building}
-use Rattle.deny_codes.specs.BuildScripts.{bypass_range}
-use Rattle.deny_codes.specs.Circumstances.{Circumstances}
-use Rattle.deny_codes.specs.Codes.{is_of_bans}
-use Rattle.deny_codes.specs.EachCode.{StandsAs}
-use Rattle.deny_codes.specs.Facts.{Facts}
-use Rattle.deny_codes.specs.Packages.{build_keys_in, Looking, build_keys, is_used, looking, package_keys}
-use Rattle.deny_codes.specs.Packages.{unmatched_bypass_keys}
-use Rattle.deny_codes.specs.Standing.{ListsOwn, Stands, StandsBy, StandsIn}
-use Rattle.deny_codes.proofs.BuildMade.{build_made, deprecated_made, MadeOfBuilds}
-use Rattle.deny_codes.proofs.Made.{Made, allowed_by_wrapper_made, allowed_made, banned_made, default_enabled_made}
-use Rattle.deny_codes.proofs.Made.{duplicate_made, feature_banned_made, feature_not_allowed_made, mismatched_made}
-use Rattle.deny_codes.proofs.Made.{not_allowed_made, replaced_made, skipped_by_root_made, skipped_made}
-use Rattle.deny_codes.proofs.Made.{unknown_feature_made, unmatched_ignore_made, unmatched_wrapper_made, unresolved_made}
-use Rattle.deny_codes.proofs.Made.{unused_entry_made, wildcard_made, workspace_duplicate_made}
-use Rattle.deny_codes.proofs.Parts.{lists_append, lists_same}
-use Rattle.deny_codes.proofs.Sections.{not_licensed}
+use Rattle.deny_spec.specs.Duplicates.{IsDuplicate}
+use Rattle.deny_spec.specs.Building.{Building}
+use Rattle.deny_spec_report.specs.BuildScripts.{bypass_span}
+use Rattle.deny_spec_report.specs.Circumstances.{Circumstances}
+use Rattle.deny_spec_report.specs.Codes.{is_of_bans}
+use Rattle.deny_spec_report.specs.EachCode.{HoldsAs}
+use Rattle.deny_spec_report.specs.Facts.{Facts}
+use Rattle.deny_spec_report.specs.Packages.{build_keys_in, Scanning, build_keys, is_used, scanning, package_keys}
+use Rattle.deny_spec_report.specs.Packages.{unmatched_bypass_keys}
+use Rattle.deny_spec_report.specs.Holding.{ListsOwn, Holds, HoldsBy, HoldsIn}
+use Rattle.deny_spec_report.proofs.BuildMade.{build_made, deprecated_made, MadeOfBuilds}
+use Rattle.deny_spec_report.proofs.Made.{Made, allowed_by_wrapper_made, allowed_made, banned_made, default_enabled_made}
+use Rattle.deny_spec_report.proofs.Made.{duplicate_made, feature_banned_made, feature_not_allowed_made, mismatched_made}
+use Rattle.deny_spec_report.proofs.Made.{not_allowed_made, replaced_made, skipped_by_root_made, skipped_made}
+use Rattle.deny_spec_report.proofs.Made.{unknown_feature_made, unmatched_ignore_made, unmatched_wrapper_made}
+use Rattle.deny_spec_report.proofs.Made.{unresolved_made, unused_entry_made, wildcard_made, workspace_duplicate_made}
+use Rattle.deny_spec_report.proofs.Parts.{lists_append, lists_same}
+use Rattle.deny_spec_report.proofs.Sections.{not_licensed}
 use Rattle.deny_std.specs.Found.{IsOfStd}
-use Rattle.deny_features.specs.FeatureKeys.{IsOfFeatures}
-use Rattle.deny_manifest_rules.specs.ManifestKeys.{IsOfManifests}
-use Rattle.deny_crate_rules.specs.Rules.{ban_rules, keys_of_rules, skip_rules}
+use Rattle.deny_rules_features.specs.FeatureKeys.{IsOfFeatures}
+use Rattle.deny_rules_manifests.specs.ManifestKeys.{IsOfManifests}
+use Rattle.deny_rules_crates.specs.Rules.{ban_rules, keys_of_rules, skip_rules}
 use Rattle.deny_rules.specs.private.OwnRules.{IsByRule, IsOfBuilds}
 use Rattle.deny_rules.proofs.BuildSections.{key_of_crates}
 use Rattle.deny_rules.proofs.StdLastLemmas.{IsFirst, IsUnused, deprecated_first, of_section, of_unused, unmatched_roots}
 use Rattle.deny_rules.proofs.StdLastLemmas.{unmatched_skips, unnecessary_skips, unused_made, unused_map}
 use Rattle.deny_rules.proofs.StdLastLemmas.{unused_wrappers}
 
--- the codes of builds are told beside the rules
-builds_told : DiagnosticCode → Bool
-builds_told Deprecated = true
-builds_told (Bans d) = not (is_of_builds d) || is_told_here (Bans d)
-builds_told (License d) = true
+-- the codes of builds are reported by the table over codes
+builds_reported : DiagnosticCode → Bool
+builds_reported Deprecated = true
+builds_reported (Bans d) = not (is_of_builds d) || is_reported_here (Bans d)
+builds_reported (License d) = true
 
 both_hold : (a b : Bool) → (not a || b) ≡ true → a ≡ true → b ≡ true
 both_hold true b all is = all
 both_hold false b all is = absurd (false≢true is)
 
-told_of_builds : (d : Code) → is_of_builds d ≡ true → IsTrue (is_told_here (Bans d))
-unfolding builds_told
-told_of_builds d mine = both_hold (is_of_builds d) (is_told_here (Bans d)) (each_code builds_told refl (Bans d)) mine
+reported_of_builds : (d : Code) → is_of_builds d ≡ true → IsTrue (is_reported_here (Bans d))
+unfolding builds_reported
+reported_of_builds d mine = both_hold (is_of_builds d) (is_reported_here (Bans d))
+    (each_code builds_reported refl (Bans d)) mine
 
 module _ (c : Circumstances) (facts : Facts) where
   abbrev IsOwn : Key → Type 0
-  IsOwn key = StandsIn is_of_bans c facts key
+  IsOwn key = HoldsIn is_of_bans c facts key
 
-  -- what stands by one of the rules
+  -- the key holds by one of the rules
   abbrev ByRule : Key → Type 0
   ByRule key = IsByRule c facts key
 
-  -- what stands as a code whose keys bear it, in a section of the bans check
-  own : (s : Section) (d : Code) (key : Key) → IsTrue (is_of_bans s) → Made s d key → StandsAs d c facts key → IsOwn key
+  -- a key that is made for a code, in a section of the bans check, holds as its own
+  own : (s : Section) (d : Code) (key : Key) → IsTrue (is_of_bans s) → Made s d key → HoldsAs d c facts key → IsOwn key
   own s d key mine made is = (
     subst (λ (t : Section). IsTrue (is_of_bans t)) (sym made.section_is) mine,
-    subst (λ (e : DiagnosticCode). StandsBy e c facts key) (sym made.code_is) is,
+    subst (λ (e : DiagnosticCode). HoldsBy e c facts key) (sym made.code_is) is,
   )
 
-  -- a key of a rule stands, is told beside the rules, and comes before what stands of replaced crates
+  -- a key of a rule holds, is reported by the table over codes, and comes before the keys of replaced crates
   abbrev IsSound : Key → Type 0
   IsSound key = IsOwn key × IsFirst key
 
   abbrev AreSound : List Key → Type 0
   AreSound keys = (key : Key) → Contains keys key → IsSound key
 
-  -- in a section before those of unused entries
-  sound_in : (s : Section) (d : Code) (key : Key) → IsTrue (is_of_bans s) → IsTrue (is_told_here (Bans d))
+  -- a key of a section before that of unused entries is sound
+  sound_in : (s : Section) (d : Code) (key : Key) → IsTrue (is_of_bans s) → IsTrue (is_reported_here (Bans d))
       → section_cmp s section.Unused ≡ Less → section_cmp s section.Std ≡ Less → Made s d key
-      → StandsAs d c facts key → IsSound key
+      → HoldsAs d c facts key → IsSound key
   sound_in s d key mine here unused std made is = (own s d key mine made is, of_section s d key here unused std made)
 
-  of_crate : (d : Code) (key : Key) → IsTrue (is_told_here (Bans d)) → Made section.Crates d key
-      → StandsAs d c facts key → IsSound key
+  of_crate : (d : Code) (key : Key) → IsTrue (is_reported_here (Bans d)) → Made section.Crates d key
+      → HoldsAs d c facts key → IsSound key
   unfolding section_number
   of_crate d key here made is = sound_in section.Crates d key refl here refl refl made is
 
-  -- or of an unused entry, before those of replaced crates
-  of_entry : (d : Code) (key : Key) → IsTrue (is_told_here (Bans d))
+  -- a key of an unused entry that comes before those of replaced crates is sound
+  of_entry : (d : Code) (key : Key) → IsTrue (is_reported_here (Bans d))
       → diagnostic_code_cmp (Bans d) (Bans code.UnmatchedReplacementIgnore) ≡ Less → IsUnused d key
-      → StandsAs d c facts key → IsSound key
+      → HoldsAs d c facts key → IsSound key
   unfolding section_number
   of_entry d key here below unused is =
       (own section.Unused d key refl (unused_made d key unused) is, of_unused d key here below refl unused)
@@ -178,27 +180,27 @@ module _ (c : Circumstances) (facts : Facts) where
   built_first key made is = by_building c.building is
     where
       by_building : (o : Option Building)
-          → Contains (option_map_or (λ b. build_keys (looking c facts b)) o []) key → IsFirst key
+          → Contains (option_map_or (λ b. build_keys (scanning c facts b)) o []) key → IsFirst key
       by_building None at = absurd (no_member key at)
       by_building (Some b) at =
-          let l : Looking = looking c facts b in
+          let l : Scanning = scanning c facts b in
           elim (Contains-append_cases (flat_map (package_keys l) c.graph.crates) (unmatched_bypass_keys l) key at) [
-            | inl here ↦ of_section section.Crates made.code key (told_of_builds made.code made.of_builds) refl refl
+            | inl here ↦ of_section section.Crates made.code key (reported_of_builds made.code made.of_builds) refl refl
                 (record { code_is = made.made.code_is; section_is = key_of_crates l key here })
             | inr there ↦ of_unused code.UnmatchedBypass key refl refl refl
-                (unused_map code.UnmatchedBypass bypass_range (filter (λ y. not (is_used l y)) b.bypass) key there)
+                (unused_map code.UnmatchedBypass bypass_span (filter (λ y. not (is_used l y)) b.bypass) key there)
           ]
 
   builds_sound : (key : Key) → IsOfBuilds c facts key → IsSound key
   builds_sound key (inl is) =
       let made = build_made c facts key is in (
-        own made.section made.code key made.of_bans made.made (made.stands c facts key is),
+        own made.section made.code key made.of_bans made.made (made.holds c facts key is),
         built_first key made is,
       )
   builds_sound key (inr is) = let made = deprecated_made c key is in (
     (
       subst (λ (t : Section). IsTrue (is_of_bans t)) (sym made.section_is) refl,
-      subst (λ (e : DiagnosticCode). StandsBy e c facts key) (sym made.code_is) is,
+      subst (λ (e : DiagnosticCode). HoldsBy e c facts key) (sym made.code_is) is,
     ),
     deprecated_first key made,
   )
@@ -211,26 +213,26 @@ module _ (c : Circumstances) (facts : Facts) where
   sound key (inr (inr (inr (inr (inl is))))) = manifests_sound key is
   sound key (inr (inr (inr (inr (inr is))))) = builds_sound key is
 
-  pub rules_here : (key : Key) → ByRule key → IsTrue (is_told_here key.code)
+  pub rules_here : (key : Key) → ByRule key → IsTrue (is_reported_here key.code)
   rules_here key is = (sound key is).1.here
 
-  pub rules_stand : (key : Key) → ByRule key → Stands c facts key
-  rules_stand key is = (sound key is).0.1
+  pub rules_are_written : (key : Key) → ByRule key → Holds c facts key
+  rules_are_written key is = (sound key is).0.1
 
   std_sound : (key : Key) → IsOfStd c key → IsOwn key
   std_sound key (inl is) = own section.Unused code.UnmatchedReplacementIgnore key refl
       (unmatched_ignore_made c key is) is
   std_sound key (inr is) = own section.Std code.ReplacedInStd key refl (replaced_made c key is) is
 
--- ---- and back
+-- ---- each key that holds is one of a rule, or of replaced crates
 
--- a key of the rule of a number
+-- a key of the rule at an index is one of all rules
 of_rule : (rules : List (List Key)) (n : ℕ) (keys : List Key) (key : Key) → n < length rules
     → slice_index_or rules n keys ≡ keys → Contains keys key → Contains (keys_of_rules rules) key
 of_rule rules n keys key within at is = Contains-flat_map (λ (ks : List Key). ks) rules keys key (n, within, at) is
 
 module _ (c : Circumstances) (facts : Facts) (key : Key) where
-  -- what stands by a rule, or of replaced crates
+  -- the key holds by a rule, or is one of replaced crates
   abbrev IsEither : Type 0
   IsEither = ByRule c facts key ⊎ IsOfStd c key
 
@@ -252,7 +254,7 @@ module _ (c : Circumstances) (facts : Facts) (key : Key) where
   build : Contains (build_keys_in c facts) key → IsEither
   build is = inl (inr (inr (inr (inr (inr (inl is))))))
 
-whole_as : (d : Code) (c : Circumstances) (facts : Facts) (key : Key) → StandsAs d c facts key → IsEither c facts key
+whole_as : (d : Code) (c : Circumstances) (facts : Facts) (key : Key) → HoldsAs d c facts key → IsEither c facts key
 whole_as code.Banned c facts key is = ban c facts key 0 _ (omega arith) refl is
 whole_as code.AllowedByWrapper c facts key is = ban c facts key 1 _ (omega arith) refl is
 whole_as code.UnmatchedWrapper c facts key is = ban c facts key 2 _ (omega arith) refl is
@@ -292,12 +294,12 @@ whole_as code.UnmatchedPathBypass c facts key is = build c facts key is
 whole_as code.UnmatchedGlob c facts key is = build c facts key is
 
 whole_by : (d : DiagnosticCode) (c : Circumstances) (facts : Facts) (key : Key) → IsTrue (is_of_bans key.section)
-    → StandsBy d c facts key → IsEither c facts key
+    → HoldsBy d c facts key → IsEither c facts key
 whole_by Deprecated c facts key mine is = inl (inr (inr (inr (inr (inr (inr is))))))
 whole_by (Bans d) c facts key mine is = whole_as d c facts key is
 whole_by (License d) c facts key mine is = absurd (not_licensed d c.licensing c.graph key mine is)
 
--- what all rules add
+-- the keys that all rules add
 pub adds_by_rule : (c : Circumstances) (facts : Facts) (old one two three four five new : List Key)
     → Adds (Contains (keys_of_rules (ban_rules c.policy c.graph))) old one
     → Adds (Contains (keys_of_rules (skip_rules c.policy c.graph facts.chains))) one two
@@ -319,14 +321,14 @@ adds_by_rule c facts old one two three four five new bans skips duplicates featu
     (adds_then featured (λ key. written key ⊎ built key) three four new features
     (adds_then written built four five new manifests builds))))
 
--- the keys that rules give and then those of replaced crates are what stands in the sections of the bans check
+-- the keys of the rules and then those of replaced crates are the keys in the sections of the bans check
 pub lists_own : (c : Circumstances) (facts : Facts) (rules std : List Key)
     → Lists key_cmp (IsByRule c facts) rules → Lists key_cmp (IsOfStd c) std
     → ListsOwn is_of_bans c facts (rules ++ std)
 lists_own c facts rules std these those =
-    lists_same key_cmp (IsEither c facts) (StandsIn is_of_bans c facts) (rules ++ std)
+    lists_same key_cmp (IsEither c facts) (HoldsIn is_of_bans c facts) (rules ++ std)
     (lists_append key_cmp (ByRule c facts) (IsOfStd c) rules std these those
     (λ x y is there. (sound c facts x is).1.first c y there))
-    (λ key is. elim is as (λ _. StandsIn is_of_bans c facts key)
+    (λ key is. elim is as (λ _. HoldsIn is_of_bans c facts key)
     [ inl by_rule ↦ (sound c facts key by_rule).0 | inr of_std ↦ std_sound c facts key of_std ])
     (λ key is. whole_by key.code c facts key is.0 is.1)

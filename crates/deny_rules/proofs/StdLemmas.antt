@@ -1,4 +1,4 @@
--- What stands of replaced crates: nothing where no table is asked for, and always some ascending list.
+-- The keys of replaced crates: none where no table is asked for, and always in some ascending list.
 use Rattle.std.proofs.Common.{List, [], ◌++◌, ◌⊎◌, Bool, None, Option, Some, false, inl, inr, not, refl, subst, true}
 use Rattle.std.proofs.Common.{◌∷◌, ◌≡◌}
 use Rattle.std.specs.List.{list_any}
@@ -9,22 +9,22 @@ use Rattle.std.proofs.lemmas.Bool.{not-false}
 use Rattle.deny_base.proofs.KeyEqual.{key_cmp-exact, key_cmp-total}
 use Rattle.deny_base.specs.KeyOrder.{key_cmp}
 use Rattle.deny_base.specs.declared.key.Key.{Key}
-use Rattle.deny_model.specs.Graph.{Crate, Graph, dependents}
-use Rattle.deny_model.specs.Policy.{Entry, Replacing, Scope, NoCrate, Workspace, Transitive, EachCrate}
-use Rattle.deny_codes.specs.Circumstances.{Circumstances}
-use Rattle.deny_codes.specs.Saying.{Items, Saying, said_by}
-use Rattle.deny_codes.specs.StdReplacements.{asks_for_table, hits_ignore, ignore_hit, ignore_hits, ignore_hits_in}
-use Rattle.deny_codes.specs.StdReplacements.{is_in_scope, is_replaced, is_told_replaced, is_unmatched_ignore}
-use Rattle.deny_codes.specs.StdReplacements.{looks_at_none, may_replace, replaced_keys, replaced_keys_in}
-use Rattle.deny_codes.specs.StdReplacements.{unmatched_ignore_keys, unmatched_ignore_keys_in}
-use Rattle.deny_codes.proofs.Parts.{lists_same}
-use Rattle.deny_lists.proofs.Filters.{filter-none}
-use Rattle.deny_lists.proofs.Members.{no_member}
-use Rattle.deny_lists.proofs.Booleans.{and-false}
+use Rattle.deny_spec.specs.Graph.{Crate, Graph, dependents}
+use Rattle.deny_spec.specs.Policy.{Entry, Replacing, Scope, NoCrate, Workspace, Transitive, EachCrate}
+use Rattle.deny_spec_report.specs.Circumstances.{Circumstances}
+use Rattle.deny_spec_report.specs.Saying.{Items, Saying, said_by}
+use Rattle.deny_spec_report.specs.StdReplacements.{asks_for_table, hits_ignore, ignore_hit, ignore_hits, ignore_hits_in}
+use Rattle.deny_spec_report.specs.StdReplacements.{is_in_scope, is_replaced, is_reported_replaced, is_unmatched_ignore}
+use Rattle.deny_spec_report.specs.StdReplacements.{looks_at_none, may_replace, replaced_keys, replaced_keys_in}
+use Rattle.deny_spec_report.specs.StdReplacements.{unmatched_ignore_keys, unmatched_ignore_keys_in}
+use Rattle.deny_spec_report.proofs.Parts.{lists_same}
+use Rattle.deny_base_lists.proofs.Filters.{filter-none}
+use Rattle.deny_base_lists.proofs.Members.{no_member}
+use Rattle.deny_base_lists.proofs.Booleans.{and-false}
 use Rattle.deny_std.specs.Found.{IsOfStd}
 use Rattle.deny_rules.proofs.OrderedLemmas.{Ordered, ordered}
 
--- ---- some list of it
+-- ---- an ascending list of the keys
 
 pub std_ordered : (c : Circumstances) → Ordered key_cmp (IsOfStd c)
 std_ordered c =
@@ -41,7 +41,7 @@ std_ordered c =
           ]);
     }
 
--- ---- nothing, where the scope is none
+-- ---- no keys, where the scope is none
 
 any_fails : {X : Type 0} (test : X → Bool) (xs : List X) → ((x : X) → test x ≡ false) → list_any test xs ≡ false
 any_fails test [] fails = refl
@@ -80,9 +80,9 @@ module _ (r : Replacing) (g : Graph) (said : Saying) (none : looks_at_none r.sco
   unfolding hits_ignore
   no_hit e c = rw (not_replaced c) refl
 
-  none_told : (c : Crate) → is_told_replaced r g said c ≡ false
-  unfolding is_told_replaced
-  none_told c = rw (not_replaced c) refl
+  none_reported : (c : Crate) → is_reported_replaced r g said c ≡ false
+  unfolding is_reported_replaced
+  none_reported c = rw (not_replaced c) refl
 
   none_unmatched : (e : Entry) → is_unmatched_ignore r g said e ≡ false
   unfolding is_unmatched_ignore
@@ -90,7 +90,7 @@ module _ (r : Replacing) (g : Graph) (said : Saying) (none : looks_at_none r.sco
 
   none_replaced_keys : replaced_keys r g said ≡ []
   unfolding replaced_keys
-  none_replaced_keys = rw (filter-none (is_told_replaced r g said) g.crates none_told) refl
+  none_replaced_keys = rw (filter-none (is_reported_replaced r g said) g.crates none_reported) refl
 
   none_unmatched_keys : unmatched_ignore_keys r g said ≡ []
   unfolding unmatched_ignore_keys
@@ -104,7 +104,7 @@ module _ (r : Replacing) (g : Graph) (said : Saying) (none : looks_at_none r.sco
   unfolding ignore_hits
   no_hits = gives_none (ignore_hit r g said) r.ignore no_hit_of
 
--- of a policy that asks for no table
+-- a policy that asks for no table has no keys of replaced crates
 pub nothing_of_std : (c : Circumstances) → asks_for_table c.policy ≡ false → (key : Key) → IsOfStd c key → ⊥
 nothing_of_std c none key is = by c.policy.replacing none is
   where

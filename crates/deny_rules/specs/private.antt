@@ -1,4 +1,4 @@
 pub mod OfPackages
 pub mod OwnRules
 pub mod Replaced
-pub mod Shown
+pub mod Reported

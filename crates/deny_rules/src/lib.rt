@@ -1,5 +1,5 @@
-//! The bans check: which keys stand of a policy on a graph by the rules on crates and their features,
-//! which entries are hit, and with them what the standard library replaces.
+//! The bans check: which keys hold for a policy and a graph by the rules on crates, features, manifests and
+//! packages, which entries are hit, and which crates the standard library replaces.
 #![tactic(auto)]
 
 pub mod bans;
@@ -8,4 +8,4 @@ mod packages;
 mod replaced;
 
 pub use check::{BansEnd, CheckCtx};
-pub use deny_dup_edges::{DupEdge, DupEdges, DupSet};
+pub use deny_rules_dup_edges::{DupEdge, DupEdges, DupSet};

@@ -1,24 +1,24 @@
-//! What the standard library replaces of a graph, where the policy asks for it.
+//! The crates of a graph that the standard library replaces, where the policy asks for them.
 ghost use Rattle.std.specs.Prelude.{◌≡◌, ◌++◌, IfOk, OnErr, OnOk, Some, option_copied};
 ghost use Rattle.deny_cfg.specs.PolicyView.{policy_view, replacing_view, scope_view};
-ghost use Rattle.deny_codes.specs.Circumstances.{Circumstances};
-ghost use Rattle.deny_codes.specs.Saying.{HasTable, bytes_of, said_by};
-ghost use Rattle.deny_codes.specs.StdReplacements.{ignore_hits_in, looks_at_none};
-ghost use Rattle.deny_std.specs.Found.{IsFound, TellsStd, TellsStdPrefix};
+ghost use Rattle.deny_spec_report.specs.Circumstances.{Circumstances};
+ghost use Rattle.deny_spec_report.specs.Saying.{HasTable, bytes_of, said_by};
+ghost use Rattle.deny_spec_report.specs.StdReplacements.{ignore_hits_in, looks_at_none};
+ghost use Rattle.deny_std.specs.Found.{IsFound, ReportsStd, ReportsStdPrefix};
 ghost use Rattle.deny_rules.specs.Check.{IsTableThere};
-ghost use Rattle.deny_rules.specs.private.Replaced.{IsFoundBy, IsFoundOf};
+ghost use Rattle.deny_rules.specs.private.Replaced.{IsFoundForPolicy, IsFoundOf};
 
 use deny_base::{FileId, Hit, Pack};
+use deny_base_lists::{List, NoMemory};
 use deny_cfg::Scope;
 use deny_cfg::bans::cfg::{StdReplacementConfig, ValidConfig};
 use deny_krates::Krates;
-use deny_lists::{List, NoMemory};
 use deny_std::{Replacements, replacements_of};
 use deny_std_table::ReplacementData;
 use std::alloc::Global;
 
-/// What the bytes of a table replace of a graph. None exactly where the policy asks for no table:
-/// then the bytes are not looked at.
+/// The crates of a graph that a table replaces. None exactly where the policy asks for no table: then its
+/// bytes are not read.
 pub fn replacements_in<'d>(
     alloc: Global,
     cfg: &ValidConfig,
@@ -26,7 +26,7 @@ pub fn replacements_in<'d>(
     table: Option<&'d [u8]>,
 ) -> Result<Option<Replacements<'d>>, NoMemory>
     requires table { IsTableThere cfg.now (option_copied table) }
-    ensures { IfOk result (IsFoundBy (policy_view cfg.now) krates.now
+    ensures { IfOk result (IsFoundForPolicy (policy_view cfg.now) krates.now
         (said_by (bytes_of (option_copied table.entry)))) }
 {
     let Some(replacing) = &cfg.std_replacements else {
@@ -50,7 +50,7 @@ fn looks_at_none(scope: Scope) -> bool
     }
 }
 
-// What these bytes replace, which are a table.
+// The crates of a graph that a table replaces, by the bytes of the table.
 fn read_replacements<'d>(
     alloc: Global,
     replacing: &StdReplacementConfig,
@@ -66,13 +66,13 @@ fn read_replacements<'d>(
     }
 }
 
-/// Appends the hits of the entries that pass crates over.
+/// Appends the hits of the entries that ignore replaced crates.
 pub fn add_ignore_hits(
     found: &Option<Replacements<'_>>,
     hits: &mut List<Hit>,
 ) -> Result<(), NoMemory>
     ensures { OnOk result ((c : Circumstances)
-        → IsFoundBy c.policy c.graph (said_by c.table) found.now
+        → IsFoundForPolicy c.policy c.graph (said_by c.table) found.now
         → hits.new ≡ hits.old ++ ignore_hits_in c) }
 {
     match found {
@@ -90,19 +90,19 @@ fn add_hits(more: &[Hit], hits: &mut List<Hit>) -> Result<(), NoMemory>
     Ok(())
 }
 
-/// Appends what is told of entries that passed nothing over, and then of replaced crates. Where
-/// memory runs out, a prefix of it was appended, which may be empty.
-pub fn tell_replaced(
+/// Appends the findings of entries that ignored nothing, and then those of replaced crates. Where memory runs
+/// out, a prefix of them was appended, which may be empty.
+pub fn report_replaced(
     alloc: Global,
     krates: &Krates,
     found: Option<Replacements<'_>>,
     file: FileId,
     sink: &mut List<Pack>,
 ) -> Result<(), NoMemory>
-    ensures told { OnOk result ((c : Circumstances) → c.graph ≡ krates.now
-        → IsFoundOf c file found.entry → TellsStd c sink.old sink.new) }
+    ensures reported { OnOk result ((c : Circumstances) → c.graph ≡ krates.now
+        → IsFoundOf c file found.entry → ReportsStd c sink.old sink.new) }
     ensures prefix { OnErr result ((c : Circumstances) → c.graph ≡ krates.now
-        → IsFoundOf c file found.entry → TellsStdPrefix c sink.old sink.new) }
+        → IsFoundOf c file found.entry → ReportsStdPrefix c sink.old sink.new) }
 {
     match found {
         Some(replacements) => replacements.emit_diagnostics(alloc, krates, sink, file),

@@ -1,4 +1,4 @@
--- Entries in order, each once, have the causes of those that were put in order.
+-- Entries that are put in order, each once, keep their causes.
 use Rattle.std.proofs.Common.{◌≡◌, ◌≤◌, ◌++◌, ◌∷◌, [], ℕ, List, arith, cond, inl, inr, refl, subst, sym}
 use Rattle.std.specs.Cmp.{IsTotalOrder}
 use Rattle.std.specs.List.Sorted.{IsStrictlySortedBy}
@@ -8,19 +8,19 @@ use Rattle.std.specs.declared.cmp.Ordering.TheVariants.{Less}
 use Rattle.std.specs.List.{AllByRecursion, remove, sum_by}
 use Rattle.std.proofs.lemmas.List.Sums.{sum_by-append}
 use Rattle.std.proofs.lemmas.List.Sorted.{Contains-permutation, IsPermutation-remove, sum_by-IsPermutation}
-use Rattle.deny_lists.specs.Ascending.{Lists}
-use Rattle.deny_lists.proofs.Members.{Contains-cases, Contains-first, Contains-rest, at_member}
-use Rattle.deny_lists.proofs.Orders.{not_below_itself}
-use Rattle.deny_outside.specs.Count.{RoseBy}
-use Rattle.deny_outside.specs.Disk.{Disk, IsLater}
-use Rattle.deny_unread.proofs.AddedLemmas.{added_is}
-use Rattle.deny_unread.proofs.CauseLemmas.{caused_then}
-use Rattle.deny_unread.proofs.UnreadEqual.{unread_cmp-total}
-use Rattle.deny_unread.specs.Added.{added}
-use Rattle.deny_unread.specs.Bound.{Folders, is_bound}
-use Rattle.deny_unread.specs.Causes.{AreCaused}
-use Rattle.deny_unread.specs.Unread.{unread_cmp}
-use Rattle.deny_unread.specs.declared.unread.Unread.{Unread}
+use Rattle.deny_base_lists.specs.Ascending.{Lists}
+use Rattle.deny_base_lists.proofs.Members.{Contains-cases, Contains-first, Contains-rest, at_member}
+use Rattle.deny_base_lists.proofs.Orders.{not_below_itself}
+use Rattle.deny_base_disk.specs.Count.{RoseBy}
+use Rattle.deny_base_disk.specs.Disk.{Disk, IsLater}
+use Rattle.deny_base_unread.proofs.AddedLemmas.{added_is}
+use Rattle.deny_base_unread.proofs.CauseLemmas.{caused_then}
+use Rattle.deny_base.proofs.UnreadEqual.{unread_cmp-total}
+use Rattle.deny_base_unread.specs.Added.{added}
+use Rattle.deny_base_unread.specs.Bound.{Folders, is_bound}
+use Rattle.deny_base_unread.specs.Causes.{AreCaused}
+use Rattle.deny_base.specs.Unread.{unread_cmp}
+use Rattle.deny_base.specs.declared.unread.Unread.{Unread}
 
 module _ {T : Type 0} {cmp : T → T → Ordering} (total : IsTotalOrder cmp) (weight : T → ℕ) where
   -- what is above x in a list with x stays when x is removed
@@ -58,11 +58,11 @@ caused_listed folder old new us vs listed caused =
     sum-ascending unread_cmp-total weight vs us listed.ascending listed.sound in
     let few : RoseBy (sum_by weight us) old.faults new.faults = caused.few in
     record {
-      each = λ u stands. caused.each u (listed.sound u stands);
+      each = λ u member. caused.each u (listed.sound u member);
       few = omega (arith, fewer, few);
     }
 
--- entries that were there, and those of a call behind them
+-- the causes of earlier entries, and of those that a call adds
 pub caused_more : (folder : Folders) (a b c : Disk) (us vs more : List Unread) → vs ≡ us ++ more → IsLater a b
     → IsLater b c
     → AreCaused folder a b us → AreCaused folder b c (added us vs) → AreCaused folder a c vs

@@ -10,12 +10,12 @@ use Rattle.deny_krates.proofs.ResolutionLemmas.{crates-at}
 use Rattle.deny_krates.specs.Crates.{crate_view, crates_from}
 use Rattle.deny_krates.specs.Ids.{crate_of}
 use Rattle.deny_krates.specs.krate.Krate.{Krate}
-use Rattle.deny_lists.proofs.Members.{there}
-use Rattle.deny_lists.proofs.Finding.{found_member}
-use Rattle.deny_manifests.specs.Manifest.{IsOwn}
-use Rattle.deny_model.specs.Graph.{Crate, Graph}
-use Rattle.deny_model.specs.Text.{same_text}
-use Rattle.deny_spans.specs.private.Found.{StandsAt}
+use Rattle.deny_base_lists.proofs.Members.{there}
+use Rattle.deny_base_lists.proofs.Finding.{found_member}
+use Rattle.deny_spans_manifest.specs.Manifest.{IsOwn}
+use Rattle.deny_spec.specs.Graph.{Crate, Graph}
+use Rattle.deny_spec.specs.Text.{same_text}
+use Rattle.deny_spans.specs.private.Found.{OccursAt}
 
 differ : (a b : List ℕ) → a ≢ b → same_text a b ≡ false
 differ a b apart = by_test (same_text a b) refl
@@ -24,7 +24,7 @@ differ a b apart = by_test (same_text a b) refl
     by_test true is = absurd (apart ((bytes_eq-Decides a b).0 is))
     by_test false is = is
 
--- a crate is that of its id
+-- a crate is found by its id
 pub crate_found : (g : Graph) (place : ℕ) (c : Crate) → AllPairs (λ c d. c.id ≢ d.id) g.crates
     → slice_get g.crates place ≡ Some c → crate_of g c.id ≡ Some c
 crate_found g place c ids at =
@@ -42,7 +42,7 @@ pub own_is : (g : Graph) (place : ℕ) (k : Krate) → AllPairs (λ c d. c.id �
 own_is g place k ids at = subst (λ (o : Option Crate). IfSome o (λ c. c ≡ crate_view c.place k))
     (sym (crate_found g place (crate_view place k) ids at)) refl
 
--- each crate has its place
+-- each crate bears the number of its place
 pub placed : (ks : List Krate) (crates : List Crate) (k : ℕ) (c : Crate) → crates_from 0 ks ≡ crates
     → slice_get crates k ≡ Some c → c.place ≡ k
 placed ks crates k c are at = by_krate (slice_get ks k)
@@ -54,16 +54,16 @@ placed ks crates k c are at = by_krate (slice_get ks k)
         let same : crate_view k krate ≡ c = same_Some (crate_view k krate) c is in
         ap (λ (d : Crate). d.place) (sym same)
 
--- the place that an id is answered by is that of its crate
+-- the place that is found for an id is that of its crate
 pub place_is : (own g : Graph) (ks : List Krate) (id : List ℕ) (r : Option ℕ) → own ≡ g → crates_from 0 ks ≡ own.crates
-    → r ≡ option_map (λ c. c.place) (crate_of own id) → MatchOption r (crate_of g id ≡ None) (StandsAt g id)
+    → r ≡ option_map (λ c. c.place) (crate_of own id) → MatchOption r (crate_of g id ≡ None) (OccursAt g id)
 place_is own g ks id r same crates is =
-    subst (λ (h : Graph). MatchOption r (crate_of h id ≡ None) (StandsAt h id)) same
-    (subst (λ (o : Option ℕ). MatchOption o (crate_of own id ≡ None) (StandsAt own id)) (sym is)
+    subst (λ (h : Graph). MatchOption r (crate_of h id ≡ None) (OccursAt h id)) same
+    (subst (λ (o : Option ℕ). MatchOption o (crate_of own id ≡ None) (OccursAt own id)) (sym is)
     (by_crate (crate_of own id) refl))
   where
     by_crate : (o : Option Crate) → crate_of own id ≡ o
-        → MatchOption (option_map (λ (c : Crate). c.place) o) (crate_of own id ≡ None) (StandsAt own id)
+        → MatchOption (option_map (λ (c : Crate). c.place) o) (crate_of own id ≡ None) (OccursAt own id)
     by_crate None e = e
     by_crate (Some c) e =
         let at = there own.crates c (found_member (λ (d : Crate). same_text d.id id) own.crates c e) in

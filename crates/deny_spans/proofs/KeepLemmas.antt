@@ -1,27 +1,27 @@
--- What a text is kept as.
+-- The file and the manifest that a text is kept as.
 use Rattle.std.proofs.Common.{◌≡◌, ◌∙◌, ◌++◌, ◌∷◌, [], ℕ, Bool, List, Option, None, Some, IsUtf8, ap, append-nil, cond}
 use Rattle.std.proofs.Common.{length, map, refl, subst, sym}
 use Rattle.std.specs.Prelude.{◌≢◌, All, AllPairs, slice_get}
 use Rattle.std.proofs.lemmas.Str.{is_utf8-from_IsUtf8}
-use Rattle.deny_lists.proofs.Texts.{is_utf8-false}
+use Rattle.deny_base_lists.proofs.Texts.{is_utf8-false}
 use Rattle.deny_base.specs.declared.files.File.{File}
 use Rattle.deny_krates.specs.Crates.{crate_view}
 use Rattle.deny_krates.specs.Ids.{crate_of}
 use Rattle.deny_krates.specs.krate.Krate.{Krate}
-use Rattle.deny_manifests.specs.Fault.{HasNoTree}
-use Rattle.deny_manifests.specs.Manifest.{HasNoNode, IsManifestBy, IsManifestOf, IsOfGraph, dep_view, deps_in}
-use Rattle.deny_manifests.specs.Manifest.{ignored_by}
-use Rattle.deny_manifests.specs.declared.declarations.ManifestDep.{ManifestDep}
-use Rattle.deny_manifests.specs.declared.manifest.Manifest.{Manifest}
-use Rattle.deny_model.specs.Graph.{Crate, Graph}
+use Rattle.deny_spans_manifest.specs.Fault.{HasNoTree}
+use Rattle.deny_spans_manifest.specs.Manifest.{HasNoNode, IsManifestBy, IsManifestOf, IsOfGraph, dep_view, deps_in}
+use Rattle.deny_spans_manifest.specs.Manifest.{ignored_by}
+use Rattle.deny_spans_manifest.specs.declared.declarations.ManifestDep.{ManifestDep}
+use Rattle.deny_spans_manifest.specs.declared.manifest.Manifest.{Manifest}
+use Rattle.deny_spec.specs.Graph.{Crate, Graph}
 use Rattle.deny_spans.proofs.IdLemmas.{crate_found}
-use Rattle.deny_spans.proofs.LookLemmas.{file_of, kept_text}
-use Rattle.deny_spans.specs.Look.{kept_as, number_of}
+use Rattle.deny_spans.proofs.ManifestScanLemmas.{file_of, kept_text}
+use Rattle.deny_spans.specs.ManifestScan.{kept_as, number_of}
 use Rattle.deny_spans.specs.private.Gathered.{IsKept, IsManifestRead, reading}
 use Rattle.deny_spans.specs.private.Workspace.{AreSharedIn, IsKeptAlone}
 use Rattle.deny_toml.specs.value.Value.{Value}
-use Rattle.deny_workspace.specs.declared.registries.Registry.{Registry}
-use Rattle.deny_workspace.specs.declared.workspace.WorkspaceDeps.{WorkspaceDeps}
+use Rattle.deny_spans_workspace.specs.declared.registries.Registry.{Registry}
+use Rattle.deny_spans_workspace.specs.declared.workspace.WorkspaceDeps.{WorkspaceDeps}
 
 -- ---- a manifest that was read
 
@@ -30,19 +30,19 @@ module _ (g : Graph) (place : ℕ) (k : Krate) (ids : AllPairs (λ c d. c.id ≢
   found : crate_of g k.id.0 ≡ Some (crate_view place k)
   found = crate_found g place (crate_view place k) ids at
 
-  -- with the number of its file
+  -- a manifest with the number of its file
   pub manifest_is : (text : List ℕ) (number : ℕ) (m n : Manifest) → IsUtf8 text → IsManifestOf g k.id.0 text m
       → m.krate.now ≡ k → n.id ≡ number → n.krate.now ≡ m.krate.now → deps_in n ≡ deps_in m
       → ignored_by n ≡ ignored_by m → IsManifestRead g (crate_view place k) text number (Some n)
   manifest_is text number m n utf8 of krate id same_krate deps ignored =
       let c = crate_view place k in
-      let same : of.crate ≡ c = same_crate of.crate (sym of.stands ∙ found) in
+      let same : of.crate ≡ c = same_crate of.crate (sym of.in_graph ∙ found) in
       let is : IsManifestBy g c of.tree m = subst (λ (d : Crate). IsManifestBy g d of.tree m) same of.is in
       record {
         tree = Some of.tree;
         reads = (utf8, of.reads);
-        says = λ agrees tells.
-            let declared : map dep_view (deps_in n) ≡ _ = ap (map dep_view) deps ∙ is.deps agrees tells in
+        says = λ agrees reports.
+            let declared : map dep_view (deps_in n) ≡ _ = ap (map dep_view) deps ∙ is.deps agrees reports in
             let kinds : ignored_by n ≡ _ = ignored ∙ is.ignored in
             λ i. Some (record { file = id i; deps = declared i; ignored = kinds i });
         own = record {
@@ -59,7 +59,7 @@ module _ (g : Graph) (place : ℕ) (k : Krate) (ids : AllPairs (λ c d. c.id ≢
   no_manifest text number none = record {
     tree = None;
     reads = λ utf8. none;
-    says = λ agrees tells. refl;
+    says = λ agrees reports. refl;
     own = tt;
   }
 
@@ -71,23 +71,23 @@ module _ (g : Graph) (place : ℕ) (k : Krate) (ids : AllPairs (λ c d. c.id ≢
 
 -- ---- texts as files
 
--- a text that is UTF-8 is one file more
-pub file_more : (path text : List ℕ) (tree : Option Value) (number : ℕ) (old new : List File) → IsUtf8 text
+-- a text that is UTF-8 adds one file
+file_more : (path text : List ℕ) (tree : Option Value) (number : ℕ) (old new : List File) → IsUtf8 text
     → new ≡ old ++ file_of path text ∷ [] → new ≡ old ++ kept_as path (Some (reading text tree number))
 file_more path text tree number old new utf8 is =
     is ∙ ap (λ fs. old ++ fs) (sym (kept_text path (reading text tree number) (is_utf8-from_IsUtf8 text utf8)))
 
-pub number_is : (text : List ℕ) (tree : Option Value) (number : ℕ) → IsUtf8 text
+number_is : (text : List ℕ) (tree : Option Value) (number : ℕ) → IsUtf8 text
     → Some number ≡ number_of (Some (reading text tree number))
 number_is text tree number utf8 = ap (λ (b : Bool). cond b (Some number) None) (sym (is_utf8-from_IsUtf8 text utf8))
 
--- and another is none
-pub no_file : (path text : List ℕ) (tree : Option Value) (number : ℕ) (old : List File) → (IsUtf8 text → ⊥)
+-- a text that is no UTF-8 adds no file
+no_file : (path text : List ℕ) (tree : Option Value) (number : ℕ) (old : List File) → (IsUtf8 text → ⊥)
     → old ≡ old ++ kept_as path (Some (reading text tree number))
 no_file path text tree number old other = sym (append-nil old)
     ∙ ap (λ (b : Bool). old ++ cond b (file_of path text ∷ []) []) (sym (is_utf8-false text other))
 
-pub no_number : (text : List ℕ) (tree : Option Value) (number : ℕ) → (IsUtf8 text → ⊥)
+no_number : (text : List ℕ) (tree : Option Value) (number : ℕ) → (IsUtf8 text → ⊥)
     → None ≡ number_of (Some (reading text tree number))
 no_number text tree number other = ap (λ (b : Bool). cond b (Some number) None) (sym (is_utf8-false text other))
 
@@ -120,7 +120,7 @@ module _ (g : Graph) (c : Crate) (bytes : List ℕ) (old : List File) where
     numbered = refl;
     files = no_file c.manifest_path bytes None (length old) old other;
     number = no_number bytes None (length old) other;
-    says = λ agrees tells. refl;
+    says = λ agrees reports. refl;
     own = tt;
   }
 

@@ -4,11 +4,11 @@ pub mod GatherLemmas
 pub mod HomeLemmas
 pub mod IdLemmas
 pub mod KeepLemmas
-pub mod LookLemmas
+pub mod ManifestScanLemmas
 pub mod OnceLemmas
 pub mod OneViewLemmas
-mod PathRows
-pub mod RangeLemmas
 pub mod SeenLemmas
 pub mod SharedLemmas
+pub mod SpanLemmas
 pub mod TreeLies
+mod PathRows

@@ -8,13 +8,13 @@ use Rattle.std.proofs.lemmas.Option.{get_or_from_slice_get, slice_get_within}
 use Rattle.deny_krates.proofs.CratesLemmas.{length-crates_from}
 use Rattle.deny_krates.specs.Crates.{crates_from}
 use Rattle.deny_krates.specs.krate.Krate.{Krate}
-use Rattle.deny_model.specs.Graph.{Crate, Graph}
-use Rattle.deny_outside.proofs.PieceLemmas.{gave_then, gave_within}
-use Rattle.deny_outside.specs.Disk.{Disk, Files}
-use Rattle.deny_outside.specs.Read.{GaveAtMost}
+use Rattle.deny_spec.specs.Graph.{Crate, Graph}
+use Rattle.deny_base_disk.proofs.PieceLemmas.{gave_then, gave_within}
+use Rattle.deny_base_disk.specs.Disk.{Disk, Files}
+use Rattle.deny_base_disk.specs.Read.{GaveAtMost}
 use Rattle.deny_spans.specs.Wanted.{bytes_of}
 
--- with that of one crate more
+-- the bytes given so far with those of one more crate's manifest
 pub given_next : (g : Graph) (place : ℕ) (c : Crate) (a b now : Disk) → slice_get g.crates place ≡ Some c
     → b.files ≡ a.files → GaveAtMost a b (λ files. sum_by (bytes_of files) (take place g.crates))
     → GaveAtMost b now (λ files. bytes_of files c)
@@ -35,7 +35,7 @@ given_next g place c a b now at same before behind =
       sum_by-append (bytes_of files) (take place g.crates) (c ∷ []),
     )
 
--- those of all crates
+-- the bytes given for the manifests of all crates
 pub given_all : (g : Graph) (place : ℕ) (ks : List Krate) (a b : Disk) → crates_from 0 ks ≡ g.crates → length ks ≤ place
     → GaveAtMost a b (λ files. sum_by (bytes_of files) (take place g.crates))
     → GaveAtMost a b (λ files. sum_by (bytes_of files) g.crates)

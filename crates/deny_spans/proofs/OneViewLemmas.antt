@@ -1,4 +1,4 @@
--- What is seen of a disk that tells its files is one.
+-- A disk that tells its files determines what is seen of manifests.
 use Rattle.std.proofs.Common.{◌≡◌, ◌∙◌, ◌+◌, ◌<◌, ◌++◌, ◌∷◌, [], ℕ, List, Option, None, Some, ap, arith, get_or, inl}
 use Rattle.std.proofs.Common.{inr, length, map, refl, subst, sym}
 use Rattle.std.specs.Prelude.{◌≢◌, AllPairs, Contains, IfSome, slice_get}
@@ -9,23 +9,24 @@ use Rattle.std.proofs.lemmas.List.{length-map}
 use Rattle.std.proofs.lemmas.Option.{get_or_from_slice_get, same_Some, slice_get_within}
 use Rattle.deny_base.specs.declared.files.File.{File}
 use Rattle.deny_base.specs.declared.span.Kid.{Kid}
-use Rattle.deny_lists.proofs.Members.{Contains-first, Contains-rest, map_at, one_there, there}
-use Rattle.deny_lists.proofs.Sorted.{one_list}
-use Rattle.deny_manifests.proofs.AgreementLaw.{agree_so, tells_agreement}
-use Rattle.deny_model.specs.Graph.{Crate, Graph, Source, kid_of}
-use Rattle.deny_model.specs.View.{View, WorkspaceEntry}
-use Rattle.deny_outside.specs.Disk.{Files}
-use Rattle.deny_spans.proofs.LookLemmas.{reads_once}
-use Rattle.deny_spans.specs.Look.{AreNumbered, IsLook, IsReadAt, Look, ReadsAs, Reading, kept_as, kept_of, number_of}
-use Rattle.deny_spans.specs.Look.{tree_of, workspace_look, workspace_reading}
+use Rattle.deny_base_lists.proofs.Members.{Contains-first, Contains-rest, map_at, one_there, there}
+use Rattle.deny_base_lists.proofs.Sorted.{one_list}
+use Rattle.deny_spans_manifest.proofs.AgreementLaw.{agree_so, reports_agreement}
+use Rattle.deny_spec.specs.Graph.{Crate, Graph, Source, kid_of}
+use Rattle.deny_spec.specs.View.{View, WorkspaceEntry}
+use Rattle.deny_base_disk.specs.Disk.{Files}
+use Rattle.deny_spans.proofs.ManifestScanLemmas.{reads_once}
+use Rattle.deny_spans.specs.ManifestScan.{AreNumbered, IsManifestScan, IsReadAt, ManifestScan, ReadsAs, Reading}
+use Rattle.deny_spans.specs.ManifestScan.{kept_as, kept_of, number_of}
+use Rattle.deny_spans.specs.ManifestScan.{tree_of, workspace_scan, workspace_reading}
 use Rattle.deny_spans.specs.OneView.{AreSame}
 use Rattle.deny_spans.specs.Paths.{workspace_path}
 use Rattle.deny_spans.specs.Seen.{IsMalformed, IsMissing, IsSeen, entries_by, manifest_in, of_crate, of_workspace}
-use Rattle.deny_unread.specs.Unread.{asked}
-use Rattle.deny_unread.specs.declared.purpose.Purpose.TheVariants as purpose
-use Rattle.deny_unread.specs.declared.unread.Unread.{Unread}
-use Rattle.deny_workspace.specs.Workspace.{span_of, unused_in}
-use Rattle.deny_workspace.specs.declared.registries.Registry.{Registry}
+use Rattle.deny_base.specs.Unread.{asked}
+use Rattle.deny_base.specs.declared.purpose.Purpose.TheVariants as purpose
+use Rattle.deny_base.specs.declared.unread.Unread.{Unread}
+use Rattle.deny_spans_workspace.specs.Workspace.{span_of, unused_in}
+use Rattle.deny_spans_workspace.specs.declared.registries.Registry.{Registry}
 
 -- ---- what is read at one path
 
@@ -38,7 +39,7 @@ module _ (files : Files) where
       (subst (λ (t : List ℕ). ReadsAs t q.tree) (sym text) other.reads) in
       λ i. record { text = text i; tree = tree i; number = number i }
 
-  -- both were read, or neither
+  -- of two readings of one path both succeeded, or neither
   same_read : (path : List ℕ) (number : ℕ) (o p : Option Reading) → IfSome o (IsReadAt (Some files) path)
       → IfSome p (IsReadAt (Some files) path) → IfSome o (λ r. r.number ≡ number) → IfSome p (λ r. r.number ≡ number)
       → (o ≡ None → p ≡ None) → (p ≡ None → o ≡ None) → o ≡ p
@@ -47,22 +48,22 @@ module _ (files : Files) where
   same_read path number (Some r) (Some q) at other numbered other_numbered to from =
       ap (λ (x : Reading). Some x) (same_reading path r q at other (numbered ∙ sym other_numbered))
 
-  -- ---- the looks at crates, one after another
+  -- ---- the scans of crates, one after another
 
-  record AreAlike (ls ks : List Look) : Type 0 where
-    each : (l : Look) → Contains ls l → IsLook (Some files) l
-    other : (l : Look) → Contains ks l → IsLook (Some files) l
-    to : (a b : Look) → Contains ls a → Contains ks b → a.crate ≡ b.crate → a.read ≡ None → b.read ≡ None
-    from : (a b : Look) → Contains ls a → Contains ks b → a.crate ≡ b.crate → b.read ≡ None → a.read ≡ None
+  record AreAlike (ls ks : List ManifestScan) : Type 0 where
+    each : (l : ManifestScan) → Contains ls l → IsManifestScan (Some files) l
+    other : (l : ManifestScan) → Contains ks l → IsManifestScan (Some files) l
+    to : (a b : ManifestScan) → Contains ls a → Contains ks b → a.crate ≡ b.crate → a.read ≡ None → b.read ≡ None
+    from : (a b : ManifestScan) → Contains ls a → Contains ks b → a.crate ≡ b.crate → b.read ≡ None → a.read ≡ None
 
-  same_looks : (number : ℕ) (ls ks : List Look) → map (λ l. l.crate) ls ≡ map (λ l. l.crate) ks
+  same_scans : (number : ℕ) (ls ks : List ManifestScan) → map (λ l. l.crate) ls ≡ map (λ l. l.crate) ks
       → AreNumbered number ls → AreNumbered number ks → AreAlike ls ks → ls ≡ ks
-  same_looks number [] [] crates numbered other alike = refl
-  same_looks number [] (b ∷ ks) crates numbered other alike = absurd (cc crates)
-  same_looks number (a ∷ ls) [] crates numbered other alike = absurd (cc crates)
-  same_looks number (a ∷ ls) (b ∷ ks) crates numbered other alike =
+  same_scans number [] [] crates numbered other alike = refl
+  same_scans number [] (b ∷ ks) crates numbered other alike = absurd (cc crates)
+  same_scans number (a ∷ ls) [] crates numbered other alike = absurd (cc crates)
+  same_scans number (a ∷ ls) (b ∷ ks) crates numbered other alike =
       let crate : a.crate ≡ b.crate = cc in
-      let crates_behind : map (λ (l : Look). l.crate) ls ≡ map (λ (l : Look). l.crate) ks = cc in
+      let crates_behind : map (λ (l : ManifestScan). l.crate) ls ≡ map (λ (l : ManifestScan). l.crate) ks = cc in
       let here = Contains-first a ls in
       let there_b = Contains-first b ks in
       let at_b : IfSome b.read (IsReadAt (Some files) a.crate.manifest_path) =
@@ -71,8 +72,8 @@ module _ (files : Files) where
       let read : a.read ≡ b.read = same_read a.crate.manifest_path number a.read b.read (alike.each a here).read at_b
       numbered.0 other.0 (alike.to a b here there_b crate) (alike.from a b here there_b crate) in
       let same : a ≡ b = λ i. record { crate = crate i; read = read i } in
-      let behind : ls ≡ ks = same_looks (number + length (kept_of a)) ls ks crates_behind numbered.1
-      (subst (λ (l : Look). AreNumbered (number + length (kept_of l)) ks) (sym same) other.1)
+      let behind : ls ≡ ks = same_scans (number + length (kept_of a)) ls ks crates_behind numbered.1
+      (subst (λ (l : ManifestScan). AreNumbered (number + length (kept_of l)) ks) (sym same) other.1)
       (record {
         each = λ l is. alike.each l (Contains-rest a ls l is);
         other = λ l is. alike.other l (Contains-rest b ks l is);
@@ -83,59 +84,60 @@ module _ (files : Files) where
 
 -- ---- entries name crates
 
-module _ (g : Graph) (ids : AllPairs (λ c d. c.id ≢ d.id) g.crates) (looks : List Look)
-    (crates : map (λ l. l.crate) looks ≡ g.crates) where
-  at_place : (k : ℕ) (l : Look) (d : Crate) → slice_get looks k ≡ Some l → get_or g.crates k d ≡ l.crate
+module _ (g : Graph) (ids : AllPairs (λ c d. c.id ≢ d.id) g.crates) (scans : List ManifestScan)
+    (crates : map (λ l. l.crate) scans ≡ g.crates) where
+  at_place : (k : ℕ) (l : ManifestScan) (d : Crate) → slice_get scans k ≡ Some l → get_or g.crates k d ≡ l.crate
   at_place k l d is = get_or_from_slice_get g.crates k l.crate d
-      (ap (λ (cs : List Crate). slice_get cs k) (sym crates) ∙ map_at (λ (x : Look). x.crate) looks k l is)
+      (ap (λ (cs : List Crate). slice_get cs k) (sym crates) ∙ map_at (λ (x : ManifestScan). x.crate) scans k l is)
 
-  inside : (k : ℕ) (l : Look) → slice_get looks k ≡ Some l → k < length g.crates
+  inside : (k : ℕ) (l : ManifestScan) → slice_get scans k ≡ Some l → k < length g.crates
   inside k l is =
-      let long = length-map looks (λ (x : Look). x.crate) in
-      omega (arith, slice_get_within looks k l is, long, ap length crates)
+      let long = length-map scans (λ (x : ManifestScan). x.crate) in
+      omega (arith, slice_get_within scans k l is, long, ap length crates)
 
-  apart : (i j : ℕ) (a b : Look) → slice_get looks i ≡ Some a → slice_get looks j ≡ Some b → a.crate.id ≡ b.crate.id
+  apart : (i j : ℕ) (a b : ManifestScan) → slice_get scans i ≡ Some a → slice_get scans j ≡ Some b
+      → a.crate.id ≡ b.crate.id
       → i < j → ⊥
   apart i j a b at_a at_b same below = ids i j a.crate below (inside j b at_b)
       (ap (λ (c : Crate). c.id) (at_place i a a.crate at_a) ∙ same
       ∙ sym (ap (λ (c : Crate). c.id) (at_place j b a.crate at_b)))
 
-  one_look : (a b : Look) → Contains looks a → Contains looks b → a.crate.id ≡ b.crate.id → a ≡ b
-  one_look a b is other same =
-      let i = there looks a is in
-      let j = there looks b other in
+  one_scan : (a b : ManifestScan) → Contains scans a → Contains scans b → a.crate.id ≡ b.crate.id → a ≡ b
+  one_scan a b is other same =
+      let i = there scans a is in
+      let j = there scans b other in
       elim (cases_lt i.0 j.0) as (λ _. a ≡ b) [
         | inl below ↦ absurd (apart i.0 j.0 a b i.1 j.1 same below)
         | inr not_below ↦ elim (cases_lt j.0 i.0) as (λ _. a ≡ b) [
           | inl above ↦ absurd (apart j.0 i.0 b a j.1 i.1 (sym same) above)
           | inr not_above ↦
               let one : j.0 ≡ i.0 = omega arith in
-              one_there looks i.0 a b i.1 (subst (λ (n : ℕ). slice_get looks n ≡ Some b) one j.1)
+              one_there scans i.0 a b i.1 (subst (λ (n : ℕ). slice_get scans n ≡ Some b) one j.1)
         ]
       ]
 
-  -- an entry of a crate's manifest says that this was not read
-  unread_of : (alone : Option Reading) (b : Look) → Contains looks b
-      → IsMissing g looks alone (asked (Some (kid_of b.crate)) purpose.Manifest b.crate.manifest_path) → b.read ≡ None
-  unread_of alone b stands (of_crate l there_is local unread is) =
+  -- an entry for a crate's manifest means that it was not read
+  unread_of : (alone : Option Reading) (b : ManifestScan) → Contains scans b
+      → IsMissing g scans alone (asked (Some (kid_of b.crate)) purpose.Manifest b.crate.manifest_path) → b.read ≡ None
+  unread_of alone b member (of_crate l there_is local unread is) =
       let krate : Some (kid_of b.crate) ≡ Some (kid_of l.crate) = ap (λ (u : Unread). u.krate) is in
       let id : b.crate.id ≡ l.crate.id =
       ap (λ (k : Kid). k.0) (same_Some (kid_of b.crate) (kid_of l.crate) krate) in
-      ap (λ (x : Look). x.read) (one_look b l stands there_is id) ∙ unread
-  unread_of alone b stands (of_workspace unlooked unread is) = absurd (none_some (ap (λ (u : Unread). u.krate) is))
+      ap (λ (x : ManifestScan). x.read) (one_scan b l member there_is id) ∙ unread
+  unread_of alone b member (of_workspace unscanned unread is) = absurd (none_some (ap (λ (u : Unread). u.krate) is))
     where
       none_some : Some (kid_of b.crate) ≡ None → ⊥
       none_some e = cc e
 
-unread_alone : (g : Graph) (looks : List Look) (alone : Option Reading)
-    → IsMissing g looks alone (asked None purpose.Manifest (workspace_path g.root)) → alone ≡ None
-unread_alone g looks alone (of_crate l stands local unread is) = absurd (none_some (ap (λ (u : Unread). u.krate) is))
+unread_alone : (g : Graph) (scans : List ManifestScan) (alone : Option Reading)
+    → IsMissing g scans alone (asked None purpose.Manifest (workspace_path g.root)) → alone ≡ None
+unread_alone g scans alone (of_crate l member local unread is) = absurd (none_some (ap (λ (u : Unread). u.krate) is))
   where
     none_some : None ≡ Some (kid_of l.crate) → ⊥
     none_some e = cc e
-unread_alone g looks alone (of_workspace unlooked unread is) = unread
+unread_alone g scans alone (of_workspace unscanned unread is) = unread
 
--- ---- two that were seen
+-- ---- two views of one disk
 
 module _ (files : Files) (g : Graph) (registries : List Registry) (ids : AllPairs (λ c d. c.id ≢ d.id) g.crates)
     (old : List File) (unread : List Unread) where
@@ -144,7 +146,8 @@ module _ (files : Files) (g : Graph) (registries : List Registry) (ids : AllPair
 
   module _ (new other_new : List File) (malformed other_malformed : List (List ℕ)) (view other_view : View)
       (one : Seen new malformed view) (other : Seen other_new other_malformed other_view) where
-    crate_unread : (a b : Look) → Contains one.looks a → Contains other.looks b → a.crate ≡ b.crate → a.read ≡ None
+    crate_unread : (a b : ManifestScan) → Contains one.scans a → Contains other.scans b → a.crate ≡ b.crate
+        → a.read ≡ None
         → b.read ≡ None
     crate_unread a b is other_is crate none = by_source a.crate.source refl
       where
@@ -152,23 +155,23 @@ module _ (files : Files) (g : Graph) (registries : List Registry) (ids : AllPair
         by_source (Some source) is_source = subst (λ (o : Option Source). IfSome o (λ _. b.read ≡ None))
             (ap (λ (c : Crate). c.source) (sym crate) ∙ is_source) (other.are.each b other_is).local
         by_source None local =
-            let stands = one.missing.whole (asked (Some (kid_of a.crate)) purpose.Manifest a.crate.manifest_path)
+            let member = one.missing.whole (asked (Some (kid_of a.crate)) purpose.Manifest a.crate.manifest_path)
             (of_crate a is local none refl) in
-            unread_of g ids other.looks other.are.crates other.alone b other_is
-            (subst (λ (c : Crate). IsMissing g other.looks other.alone
+            unread_of g ids other.scans other.are.crates other.alone b other_is
+            (subst (λ (c : Crate). IsMissing g other.scans other.alone
             (asked (Some (kid_of c)) purpose.Manifest c.manifest_path)) crate
-            (other.missing.sound (asked (Some (kid_of a.crate)) purpose.Manifest a.crate.manifest_path) stands))
+            (other.missing.sound (asked (Some (kid_of a.crate)) purpose.Manifest a.crate.manifest_path) member))
 
-    alone_unread : workspace_look g one.looks ≡ None → one.alone ≡ None → other.alone ≡ None
-    alone_unread unlooked none =
-        unread_alone g other.looks other.alone (other.missing.sound (asked None purpose.Manifest
+    alone_unread : workspace_scan g one.scans ≡ None → one.alone ≡ None → other.alone ≡ None
+    alone_unread unscanned none =
+        unread_alone g other.scans other.alone (other.missing.sound (asked None purpose.Manifest
         (workspace_path g.root))
-        (one.missing.whole (asked None purpose.Manifest (workspace_path g.root)) (of_workspace unlooked none refl)))
+        (one.missing.whole (asked None purpose.Manifest (workspace_path g.root)) (of_workspace unscanned none refl)))
 
   module _ (new other_new : List File) (malformed other_malformed : List (List ℕ)) (view other_view : View)
       (one : Seen new malformed view) (other : Seen other_new other_malformed other_view) where
-    looks_same : one.looks ≡ other.looks
-    looks_same = same_looks files (length old) one.looks other.looks (one.are.crates ∙ sym other.are.crates)
+    scans_same : one.scans ≡ other.scans
+    scans_same = same_scans files (length old) one.scans other.scans (one.are.crates ∙ sym other.are.crates)
         one.are.numbers other.are.numbers (record {
           each = one.are.each;
           other = other.are.each;
@@ -178,36 +181,37 @@ module _ (files : Files) (g : Graph) (registries : List Registry) (ids : AllPair
               one b a other_is is (sym crate) none;
         })
 
-    home_same : workspace_look g one.looks ≡ workspace_look g other.looks
-    home_same = ap (workspace_look g) looks_same
+    home_same : workspace_scan g one.scans ≡ workspace_scan g other.scans
+    home_same = ap (workspace_scan g) scans_same
 
     alone_same : one.alone ≡ other.alone
-    alone_same = by_look (workspace_look g one.looks) refl
+    alone_same = by_scan (workspace_scan g one.scans) refl
       where
-        by_look : (o : Option Look) → workspace_look g one.looks ≡ o → one.alone ≡ other.alone
-        by_look (Some l) looked =
-            subst (λ (o : Option Look). IfSome o (λ _. one.alone ≡ None)) looked one.are.once
-            ∙ sym (subst (λ (o : Option Look). IfSome o (λ _. other.alone ≡ None)) (sym home_same
-            ∙ looked) other.are.once)
-        by_look None unlooked = same_read files (workspace_path g.root)
-            (length old + length (flat_map kept_of one.looks)) one.alone other.alone one.are.own other.are.own
+        by_scan : (o : Option ManifestScan) → workspace_scan g one.scans ≡ o → one.alone ≡ other.alone
+        by_scan (Some l) scan =
+            subst (λ (o : Option ManifestScan). IfSome o (λ _. one.alone ≡ None)) scan one.are.once
+            ∙ sym (subst (λ (o : Option ManifestScan). IfSome o (λ _. other.alone ≡ None)) (sym home_same
+            ∙ scan) other.are.once)
+        by_scan None unscanned = same_read files (workspace_path g.root)
+            (length old + length (flat_map kept_of one.scans)) one.alone other.alone one.are.own other.are.own
             one.are.number
-            (subst (λ (ls : List Look). IfSome other.alone (λ r. r.number ≡ length old + length (flat_map kept_of ls)))
-            (sym looks_same) other.are.number)
-            (alone_unread new other_new malformed other_malformed view other_view one other unlooked)
-            (alone_unread other_new new other_malformed malformed other_view view other one (sym home_same ∙ unlooked))
+            (subst (λ (ls : List ManifestScan). IfSome other.alone
+            (λ r. r.number ≡ length old + length (flat_map kept_of ls)))
+            (sym scans_same) other.are.number)
+            (alone_unread new other_new malformed other_malformed view other_view one other unscanned)
+            (alone_unread other_new new other_malformed malformed other_view view other one (sym home_same ∙ unscanned))
 
-    workspace_same : workspace_reading g one.looks one.alone ≡ workspace_reading g other.looks other.alone
-    workspace_same = λ i. workspace_reading g (looks_same i) (alone_same i)
+    workspace_same : workspace_reading g one.scans one.alone ≡ workspace_reading g other.scans other.alone
+    workspace_same = λ i. workspace_reading g (scans_same i) (alone_same i)
 
-    entries_same : entries_by g registries (tree_of (workspace_reading g one.looks one.alone))
-        ≡ entries_by g registries (tree_of (workspace_reading g other.looks other.alone))
+    entries_same : entries_by g registries (tree_of (workspace_reading g one.scans one.alone))
+        ≡ entries_by g registries (tree_of (workspace_reading g other.scans other.alone))
     entries_same = ap (λ (o : Option Reading). entries_by g registries (tree_of o)) workspace_same
 
     view_same : view ≡ other_view
     view_same =
-        let manifests : view.manifests ≡ other_view.manifests = one.seen.manifests agree_so tells_agreement
-        ∙ ap (map (manifest_in agree_so g)) looks_same ∙ sym (other.seen.manifests agree_so tells_agreement) in
+        let manifests : view.manifests ≡ other_view.manifests = one.seen.manifests agree_so reports_agreement
+        ∙ ap (map (manifest_in agree_so g)) scans_same ∙ sym (other.seen.manifests agree_so reports_agreement) in
         let workspace : view.workspace ≡ other_view.workspace =
         one.seen.number ∙ ap (λ (o : Option Reading). number_of o) workspace_same ∙ sym other.seen.number in
         let shared : view.shared ≡ other_view.shared = one.seen.shared
@@ -220,21 +224,21 @@ module _ (files : Files) (g : Graph) (registries : List Registry) (ids : AllPair
     pub same_seen : AreSame new other_new malformed other_malformed view other_view
     same_seen = record {
       files = one.files
-          ∙ (λ i. old ++ (flat_map kept_of (looks_same i) ++ kept_as (workspace_path g.root) (alone_same i)))
+          ∙ (λ i. old ++ (flat_map kept_of (scans_same i) ++ kept_as (workspace_path g.root) (alone_same i)))
           ∙ sym other.files;
       paths = one_list nat_list_cmp_total malformed other_malformed one.broken
           (record {
             ascending = other.broken.ascending;
             whole = λ p is. other.broken.whole p (moved p is);
-            sound = λ p stands. back p (other.broken.sound p stands);
+            sound = λ p member. back p (other.broken.sound p member);
           });
       seen = view_same;
     }
       where
-        moved : (p : List ℕ) → IsMalformed g one.looks one.alone p → IsMalformed g other.looks other.alone p
-        moved p is = subst (λ (o : Option Reading). IsMalformed g other.looks o p) alone_same
-            (subst (λ (ls : List Look). IsMalformed g ls one.alone p) looks_same is)
+        moved : (p : List ℕ) → IsMalformed g one.scans one.alone p → IsMalformed g other.scans other.alone p
+        moved p is = subst (λ (o : Option Reading). IsMalformed g other.scans o p) alone_same
+            (subst (λ (ls : List ManifestScan). IsMalformed g ls one.alone p) scans_same is)
 
-        back : (p : List ℕ) → IsMalformed g other.looks other.alone p → IsMalformed g one.looks one.alone p
-        back p is = subst (λ (o : Option Reading). IsMalformed g one.looks o p) (sym alone_same)
-            (subst (λ (ls : List Look). IsMalformed g ls other.alone p) (sym looks_same) is)
+        back : (p : List ℕ) → IsMalformed g other.scans other.alone p → IsMalformed g one.scans one.alone p
+        back p is = subst (λ (o : Option Reading). IsMalformed g one.scans o p) (sym alone_same)
+            (subst (λ (ls : List ManifestScan). IsMalformed g ls other.alone p) (sym scans_same) is)

@@ -1,4 +1,4 @@
--- What is at a place of a list, and the shared entries there.
+-- The item at a place of a list, and the shared entry there.
 use Rattle.std.proofs.Common.{◌≡◌, ◌∙◌, ◌+◌, [], ◌∷◌, ℕ, List, Option, None, Some, ap, arith, get_or, length, refl, suc}
 use Rattle.std.proofs.Common.{sym, zero}
 use Rattle.std.specs.Borrow.{Bor}
@@ -7,8 +7,8 @@ use Rattle.std.specs.Option.{option_flatten}
 use Rattle.std.proofs.lemmas.Bool.{ltb-false, ltb-true}
 use Rattle.std.proofs.lemmas.Option.{slice_get_past, slice_get_read}
 use Rattle.deny_spans.specs.SpansView.{shared_from}
-use Rattle.deny_workspace.specs.Workspace.{span_at, span_view}
-use Rattle.deny_workspace.specs.declared.workspace.WorkspaceSpan.{WorkspaceSpan}
+use Rattle.deny_spans_workspace.specs.Workspace.{span_at, span_view}
+use Rattle.deny_spans_workspace.specs.declared.workspace.WorkspaceSpan.{WorkspaceSpan}
 
 pub got_at : {X : Type 0} (xs ys : List X) (n : ℕ) (r : Option (Bor X)) → is_some r ≡ nat_lt n (length xs)
     → IfSome r (λ x. x.now ≡ get_or xs n x.now) → xs ≡ ys → slice_get ys n ≡ option_copied r

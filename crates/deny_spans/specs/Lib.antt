@@ -1,8 +1,8 @@
-pub mod Look
+pub mod ManifestScan
 pub mod OneView
 pub mod Paths
-pub mod Ranges
 pub mod Seen
+pub mod Spans
 pub mod SpansView
 pub mod Wanted
 pub mod private

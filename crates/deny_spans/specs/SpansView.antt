@@ -1,24 +1,24 @@
--- What spans are to contracts.
+-- Spans as contracts see them.
 use Rattle.std.specs.Prelude.{◌≡◌, ℕ, ◌+◌, All, IfSome, List, [], ◌∷◌, None, Option, Some, length, map, option_map}
 use Rattle.std.specs.Prelude.{slice_get}
 use Rattle.std.specs.List.{AllZip}
 use Rattle.std.specs.Option.{option_flatten}
 use Rattle.deny_krates.specs.Crates.{crate_view}
-use Rattle.deny_lock.specs.Text.{IsLineOf, lock_span_at, lock_text}
-use Rattle.deny_lock.specs.declared.line.LockSpan.{LockSpan}
-use Rattle.deny_manifests.specs.Manifest.{IsOfGraph, deps_in, dep_view as declared_view, ignored_by}
-use Rattle.deny_manifests.specs.declared.manifest.Manifest.{Manifest as Read}
-use Rattle.deny_model.specs.Graph.{Graph}
-use Rattle.deny_model.specs.View.{Manifest, View, WorkspaceEntry}
+use Rattle.deny_krates_lock.specs.Text.{IsLineOf, lock_span_at, lock_text}
+use Rattle.deny_krates_lock.specs.declared.line.LockSpan.{LockSpan}
+use Rattle.deny_spans_manifest.specs.Manifest.{IsOfGraph, deps_in, dep_view as declared_view, ignored_by}
+use Rattle.deny_spans_manifest.specs.declared.manifest.Manifest.{Manifest as Read}
+use Rattle.deny_spec.specs.Graph.{Graph}
+use Rattle.deny_spec.specs.View.{Manifest, View, WorkspaceEntry}
 use Rattle.deny_spans.specs.declared.krate_spans.KrateSpans.{KrateSpans}
-use Rattle.deny_workspace.specs.Workspace.{dep_view, span_at, span_view}
-use Rattle.deny_workspace.specs.declared.workspace.WorkspaceSpan.{WorkspaceSpan}
+use Rattle.deny_spans_workspace.specs.Workspace.{dep_view, span_at, span_view}
+use Rattle.deny_spans_workspace.specs.declared.workspace.WorkspaceSpan.{WorkspaceSpan}
 
 -- a manifest as plain data
 abbrev pub manifest_view : Read → Manifest
 manifest_view m = record { file = m.id; deps = map declared_view (deps_in m); ignored = ignored_by m }
 
--- shared entries by the places of the crates that they stand for, the first at this place
+-- shared entries by the places of the crates that they stand for, from a place on
 abbrev pub shared_from : ℕ → List (Option WorkspaceSpan) → List (Option WorkspaceEntry)
 shared_from place [] = []
 shared_from place (s ∷ ss) = option_map (span_view place) s ∷ shared_from (place + 1) ss
@@ -53,11 +53,11 @@ pub record IsManifestAt (g : Graph) (place : ℕ) (m : Read) : Type 0 where
 abbrev pub IsSharedAt : Graph → ℕ → WorkspaceSpan → Type 0
 IsSharedAt g place s = slice_get g.crates place ≡ Some (crate_view place s.krate.now)
 
--- spans were made of this graph: they hold one of each for each crate, and refer to crates of the graph alone
+-- the spans of a graph: one of each for each crate, which refer to crates of the graph alone
 pub record AreSpansOf (g : Graph) (s : KrateSpans) : Type 0 where
   pub graph : graph_in s ≡ g
   pub lock : lock_spans_in s ≡ map (lock_span_at g.crates) g.crates
-  -- each crate's line stands in the lock text where its span says
+  -- the span of each crate is its line in the lock text
   pub lines : AllZip (IsLineOf (lock_text g.crates)) g.crates (lock_spans_in s)
   pub manifests_long : length (manifests_in s) ≡ length g.crates
   pub shared_long : length (shared_in s) ≡ length g.crates

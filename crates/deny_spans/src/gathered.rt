@@ -2,32 +2,32 @@
 ghost use Rattle.std.specs.Prelude.{◌≡◌, ◌<◌, ◌≤◌, ◌-◌, ◌^◌, ◌++◌, ◌∷◌, [], ◌&&◌};
 ghost use Rattle.std.specs.Prelude.{IfOk, IfSome, OnOk, Some, is_none, length, option_map, slice_get};
 ghost use Rattle.std.specs.List.{sum_by};
-ghost use Rattle.deny_outside.specs.Disk.{IsLater};
-ghost use Rattle.deny_outside.specs.Read.{GaveAtMost};
+ghost use Rattle.deny_base_disk.specs.Disk.{IsLater};
+ghost use Rattle.deny_base_disk.specs.Read.{GaveAtMost};
 ghost use Rattle.deny_krates.specs.Crates.{crate_view};
-ghost use Rattle.deny_manifests.specs.Manifest.{deps_in, ignored_by};
-ghost use Rattle.deny_spans.specs.private.Gathered.{IsGathered, IsKept, IsLookedAt};
+ghost use Rattle.deny_spans_manifest.specs.Manifest.{deps_in, ignored_by};
+ghost use Rattle.deny_spans.specs.private.Gathered.{IsGathered, IsKept, IsScanned};
 ghost use Rattle.deny_spans.specs.private.Gathered.{IsManifestRead, IsReadLocally, broken_if};
 ghost use Rattle.deny_spans.specs.Wanted.{bytes_of};
-ghost use Rattle.deny_unread.specs.Added.{added};
-ghost use Rattle.deny_unread.specs.Bound.{Folders};
-ghost use Rattle.deny_unread.specs.Causes.{AreCaused};
+ghost use Rattle.deny_base_unread.specs.Added.{added};
+ghost use Rattle.deny_base_unread.specs.Bound.{Folders};
+ghost use Rattle.deny_base_unread.specs.Causes.{AreCaused};
 
 use crate::missed::Missed;
 use deny_base::{FileId, Files};
+use deny_base_disk::PackageFiles;
+use deny_base_lists::{List, NoMemory};
+use deny_base_unread::{Unread, read_manifest};
 use deny_krates::{Krate, Krates};
-use deny_lists::{List, NoMemory};
-use deny_manifests::{Manifest, ManifestFault};
-use deny_outside::PackageFiles;
-use deny_unread::{Unread, read_manifest};
+use deny_spans_manifest::{Manifest, ManifestFault};
 use std::alloc::Global;
 
 /// What was made of the manifests of crates so far.
 #[derive(Drop)]
-pub struct Gathered<'k> {
-    /// By the places of the crates, the manifests that have a tree.
+pub struct GatheredManifests<'k> {
+    /// The manifests that have a tree, by the places of the crates.
     pub manifests: List<Option<Manifest<'k>>>,
-    /// By the same places, the numbers of the files that they are kept as.
+    /// The numbers of the files that manifests are kept as, by the places of the crates.
     pub numbers: List<Option<FileId>>,
     pub missed: Missed,
 }
@@ -38,7 +38,7 @@ pub fn gather<'k, D: PackageFiles>(
     krates: &'k Krates,
     disk: &mut D,
     files: &mut Files,
-) -> Result<Gathered<'k>, NoMemory>
+) -> Result<GatheredManifests<'k>, NoMemory>
     requires few { length files.old ≤ 2 ^ 31 }
     ensures gathered { IfOk result (λ gathered. IsGathered (D.seen disk.old).files krates.entry.now
         krates.entry.now.crates files.old files.new gathered) }
@@ -49,13 +49,13 @@ pub fn gather<'k, D: PackageFiles>(
     ensures few { OnOk result (length files.new < 2 ^ 32 - 1) }
     ensures later { IsLater (D.seen disk.old) (D.seen disk.new) }
 {
-    let mut gathered = Gathered {
+    let mut gathered = GatheredManifests {
         manifests: List::new(alloc),
         numbers: List::new(alloc),
         missed: Missed::none(alloc),
     };
     for (place, krate) in krates.krates().iter().enumerate() {
-        look_at(
+        scan_manifest(
             alloc,
             krates,
             place as u32,
@@ -69,18 +69,18 @@ pub fn gather<'k, D: PackageFiles>(
 }
 
 /// Reads the manifest of the crate at a place, if it has no source.
-fn look_at<'k, D: PackageFiles>(
+fn scan_manifest<'k, D: PackageFiles>(
     alloc: Global,
     krates: &'k Krates,
     place: u32,
     krate: &'k Krate,
     disk: &mut D,
     files: &mut Files,
-    gathered: &mut Gathered<'k>,
+    gathered: &mut GatheredManifests<'k>,
 ) -> Result<(), NoMemory>
-    requires stands { slice_get krates.now.crates place ≡ Some (crate_view place krate.now) }
+    requires at_place { slice_get krates.now.crates place ≡ Some (crate_view place krate.now) }
     requires few { length files.old < 2 ^ 32 - 1 }
-    ensures looked { OnOk result (IsLookedAt (D.seen disk.old).files krates.entry.now (crate_view place krate.entry.now)
+    ensures scan { OnOk result (IsScanned (D.seen disk.old).files krates.entry.now (crate_view place krate.entry.now)
         files.old files.new gathered.old gathered.new) }
     ensures caused { OnOk result ((folder : Folders) → AreCaused folder (D.seen disk.old) (D.seen disk.new)
         (added gathered.old.missed.unread gathered.new.missed.unread)) }
@@ -94,7 +94,7 @@ fn look_at<'k, D: PackageFiles>(
     Ok(())
 }
 
-/// The bytes of a crate's manifest; none of a crate with a source.
+/// The bytes of a crate's manifest; none where the crate has a source or the manifest cannot be read.
 fn read_local<D: PackageFiles>(
     alloc: Global,
     krate: &Krate,
@@ -137,7 +137,7 @@ fn keep_read<'k>(
     read: &Option<Vec<u8>>,
     files: &mut Files,
 ) -> Result<ReadManifest<'k>, NoMemory>
-    requires stands { slice_get krates.now.crates place ≡ Some (crate_view place krate.now) }
+    requires at_place { slice_get krates.now.crates place ≡ Some (crate_view place krate.now) }
     requires few { length files.old < 2 ^ 32 - 1 }
     requires short { IfSome read.now (λ bytes. length bytes.items < 2 ^ 28) }
     ensures { IfOk result (IsKept krates.entry.now (crate_view place krate.entry.now)
@@ -160,7 +160,7 @@ fn keep<'k>(
     bytes: &[u8],
     files: &mut Files,
 ) -> Result<ReadManifest<'k>, NoMemory>
-    requires stands { slice_get krates.now.crates place ≡ Some (crate_view place krate.now) }
+    requires at_place { slice_get krates.now.crates place ≡ Some (crate_view place krate.now) }
     requires few { length files.old < 2 ^ 32 - 1 }
     requires short { length bytes.now < 2 ^ 28 }
     ensures { IfOk result (IsKept krates.entry.now (crate_view place krate.entry.now) (Some bytes.now)
@@ -182,7 +182,7 @@ fn keep<'k>(
     }
 }
 
-/// The manifest of the crate at a place with this text, which is the file of this number.
+/// The manifest of the crate at a place, by its text, which is the file with this number.
 fn parsed_manifest<'k>(
     alloc: Global,
     krates: &'k Krates,
@@ -191,7 +191,7 @@ fn parsed_manifest<'k>(
     text: &str,
     number: FileId,
 ) -> Result<Option<Manifest<'k>>, NoMemory>
-    requires stands { slice_get krates.now.crates place ≡ Some (crate_view place krate.now) }
+    requires at_place { slice_get krates.now.crates place ≡ Some (crate_view place krate.now) }
     requires short { length text.now < 2 ^ 28 }
     ensures { IfOk result (IsManifestRead krates.entry.now (crate_view place krate.entry.now) text.now number) }
 {
@@ -217,9 +217,9 @@ fn numbered<'k>(manifest: Manifest<'k>, number: FileId) -> Manifest<'k>
     manifest
 }
 
-/// Puts behind the others what was made of a crate's manifest.
+/// Adds what was made of a crate's manifest behind the others.
 fn put<'k>(
-    gathered: &mut Gathered<'k>,
+    gathered: &mut GatheredManifests<'k>,
     krate: &Krate,
     was_read: bool,
     kept: ReadManifest<'k>,

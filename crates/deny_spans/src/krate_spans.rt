@@ -3,33 +3,33 @@ ghost use Rattle.std.specs.Prelude.{◌≡◌, ◌++◌, ◌∷◌, [], ◌<◌,
 ghost use Rattle.std.specs.Prelude.{None, OnOk, Some, length, map, option_copied, option_map, slice_get};
 ghost use Rattle.std.specs.List.{AllZip};
 ghost use Rattle.std.specs.Option.{option_and_then, option_flatten};
-ghost use Rattle.deny_outside.specs.Disk.{IsLater};
-ghost use Rattle.deny_outside.specs.Read.{GaveAtMost};
+ghost use Rattle.deny_base_disk.specs.Disk.{IsLater};
+ghost use Rattle.deny_base_disk.specs.Read.{GaveAtMost};
 ghost use Rattle.deny_krates.specs.Ids.{crate_of};
-ghost use Rattle.deny_lock.specs.Text.{IsLineOf, lock_span_at, lock_text};
-ghost use Rattle.deny_model.specs.Graph.{Graph};
-ghost use Rattle.deny_model.specs.View.{manifest_of, shared_at};
-ghost use Rattle.deny_spans.specs.Ranges.{ViewLies};
+ghost use Rattle.deny_krates_lock.specs.Text.{IsLineOf, lock_span_at, lock_text};
+ghost use Rattle.deny_spec.specs.Graph.{Graph};
+ghost use Rattle.deny_spec.specs.View.{manifest_of, shared_at};
+ghost use Rattle.deny_spans.specs.Spans.{ViewLies};
 ghost use Rattle.deny_spans.specs.Seen.{IsSeen, lock_file};
-ghost use Rattle.deny_spans.specs.private.Found.{IsFound, IsPutTogether, StandsAt};
+ghost use Rattle.deny_spans.specs.private.Found.{IsFound, IsPutTogether, OccursAt};
 ghost use Rattle.deny_spans.specs.SpansView.{AreSpansOf, IsManifestAt, IsSharedAt, manifest_view, spans_view};
 ghost use Rattle.deny_spans.specs.Wanted.{AreWanted, bytes_wanted};
-ghost use Rattle.deny_unread.specs.Bound.{Folders};
-ghost use Rattle.deny_unread.specs.Causes.{AreCaused};
-ghost use Rattle.deny_workspace.specs.Workspace.{span_view};
+ghost use Rattle.deny_base_unread.specs.Bound.{Folders};
+ghost use Rattle.deny_base_unread.specs.Causes.{AreCaused};
+ghost use Rattle.deny_spans_workspace.specs.Workspace.{span_view};
 
-use crate::gathered::{Gathered, gather};
+use crate::gathered::{GatheredManifests, gather};
 use crate::missed::Missed;
 use crate::paths::lock_path;
 use crate::workspace::{Workspace, shared_or_none, workspace_of};
 use deny_base::{FileId, Files, Kid};
+use deny_base_disk::PackageFiles;
+use deny_base_lists::{List, NoMemory, Text};
+use deny_base_unread::Unread;
 use deny_krates::Krates;
-use deny_lists::{List, NoMemory, Text};
-use deny_lock::{LockSpan, lock_text};
-use deny_manifests::Manifest;
-use deny_outside::PackageFiles;
-use deny_unread::Unread;
-use deny_workspace::{Registry, UnusedWorkspaceDep, WorkspaceDeps, WorkspaceSpan};
+use deny_krates_lock::{LockSpan, lock_text};
+use deny_spans_manifest::Manifest;
+use deny_spans_workspace::{Registry, UnusedWorkspaceDep, WorkspaceDeps, WorkspaceSpan};
 use std::alloc::Global;
 
 /// Where the crates of a graph stand in the lock text, in their manifests, and in what the workspace's
@@ -54,12 +54,12 @@ pub struct KrateSpans<'k> {
 }
 
 impl<'k> KrateSpans<'k> {
-    /// The spans of a graph. The lock text is added to the files as `lock_name/Cargo.lock`. Then each
-    /// crate without a source has its manifest read once, in the order of the graph. The manifest in the
-    /// root of the workspace is read behind them, where it is no crate's. What was read and is UTF-8 is
-    /// added to the files too.
+    /// The spans of a graph. The lock text is added to the files as `lock_name/Cargo.lock`. Then the
+    /// manifest of each crate without a source is read once, in graph order. The manifest in the root of
+    /// the workspace is read behind them, where it is no crate's. What was read and is UTF-8 is added to
+    /// the files too.
     ///
-    /// A manifest that is not read has an entry of its crate, or of none, and one that has no tree has
+    /// A manifest that is not read has an entry with its crate, or with none, and one that has no tree has
     /// its path among the malformed.
     pub fn synthesize<D: PackageFiles>(
         alloc: Global,
@@ -77,7 +77,7 @@ impl<'k> KrateSpans<'k> {
         ensures lock { IfOk result (λ s. s.lock_id ≡ length files.old) }
         ensures locked { IfOk result (λ s. slice_get files.new s.lock_id
             ≡ Some (lock_file lock_name.now krates.entry.now)) }
-        ensures ranges { IfOk result (λ s. ViewLies files.new (spans_view s)) }
+        ensures lies { IfOk result (λ s. ViewLies files.new (spans_view s)) }
         ensures caused { IfOk result (λ s. (folder : Folders) →
             AreCaused folder (D.seen disk.old) (D.seen disk.new) s.unread) }
         ensures wanted { IfOk result (λ s. AreWanted krates.entry.now s.unread) }
@@ -128,7 +128,7 @@ impl<'k> KrateSpans<'k> {
     /// The place of the crate of an id.
     fn place_of(&self, kid: &Kid) -> Option<u32>
         ensures { (g : Graph) → AreSpansOf g self.now
-            → MatchOption result (crate_of g kid.now.0 ≡ None) (StandsAt g kid.now.0) }
+            → MatchOption result (crate_of g kid.now.0 ≡ None) (OccursAt g kid.now.0) }
     {
         let _krates = self.krates.krates();
         self.krates.nid_for_kid(kid)
@@ -187,22 +187,22 @@ fn add_lock(
     })
 }
 
-/// What was found in manifests.
+/// The manifests that were found.
 #[derive(Drop)]
-struct Found<'k> {
+struct FoundManifests<'k> {
     manifests: List<Option<Manifest<'k>>>,
     missed: Missed,
     workspace: Workspace<'k>,
 }
 
-/// Looks at the manifests of crates, and at that of the workspace.
+/// Reads the manifests of crates, and that of the workspace.
 fn find_manifests<'k, D: PackageFiles>(
     alloc: Global,
     krates: &'k Krates,
     registries: &[Registry],
     disk: &mut D,
     files: &mut Files,
-) -> Result<Found<'k>, NoMemory>
+) -> Result<FoundManifests<'k>, NoMemory>
     requires { length files.old ≤ 2 ^ 31 }
     ensures found { IfOk result (IsFound (D.seen disk.old).files krates.entry.now registries.now files.old files.new) }
     ensures caused { IfOk result (λ found. (folder : Folders) →
@@ -211,7 +211,7 @@ fn find_manifests<'k, D: PackageFiles>(
         (λ files. bytes_wanted files krates.entry.now)) }
     ensures later { IsLater (D.seen disk.old) (D.seen disk.new) }
 {
-    let Gathered {
+    let GatheredManifests {
         manifests,
         numbers,
         missed,
@@ -226,19 +226,19 @@ fn find_manifests<'k, D: PackageFiles>(
         files,
         &mut missed,
     )?;
-    Ok(Found {
+    Ok(FoundManifests {
         manifests,
         missed,
         workspace,
     })
 }
 
-/// The spans by what was found.
+/// The spans of the lock text and the found manifests.
 fn put_together<'k>(
     alloc: Global,
     krates: &'k Krates,
     lock: Lock,
-    found: Found<'k>,
+    found: FoundManifests<'k>,
 ) -> Result<KrateSpans<'k>, NoMemory>
     ensures { IfOk result (IsPutTogether krates.entry.now lock found.entry) }
 {
@@ -246,7 +246,7 @@ fn put_together<'k>(
         id: lock_id,
         spans: lock_spans,
     } = lock;
-    let Found {
+    let FoundManifests {
         manifests,
         missed,
         workspace,

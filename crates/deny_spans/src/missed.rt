@@ -2,14 +2,14 @@
 ghost use Rattle.std.specs.Prelude.{◌≡◌, [], OnOk, Contains};
 ghost use Rattle.std.specs.Cmp.Lexicographic.{slice_cmp};
 ghost use Rattle.std.specs.Ordering.{nat_cmp};
-ghost use Rattle.deny_lists.specs.Ascending.{Lists};
-ghost use Rattle.deny_unread.specs.Unread.{unread_cmp};
+ghost use Rattle.deny_base_lists.specs.Ascending.{Lists};
+ghost use Rattle.deny_base.specs.Unread.{unread_cmp};
 
-use deny_lists::{List, NoMemory, Text, put_in_order};
-use deny_unread::{Unread, unread_order};
+use deny_base_lists::{List, NoMemory, Text, put_in_order};
+use deny_base_unread::{Unread, unread_order};
 use std::alloc::Global;
 
-/// What was missed of manifests.
+/// What is missing of manifests.
 #[derive(Drop)]
 pub struct Missed {
     /// What was not read.
@@ -19,7 +19,7 @@ pub struct Missed {
 }
 
 impl Missed {
-    /// Nothing.
+    /// Nothing is missing.
     pub fn none(alloc: Global) -> Missed
         ensures unread { result.unread ≡ [] }
         ensures malformed { result.malformed ≡ [] }
@@ -30,7 +30,7 @@ impl Missed {
         }
     }
 
-    /// Puts both in order, each once.
+    /// Puts both lists in order, each item once.
     pub fn put_in_order(&mut self) -> Result<(), NoMemory>
         ensures unread { OnOk result (Lists unread_cmp (Contains self.old.unread) self.new.unread) }
         ensures malformed { OnOk result (Lists (slice_cmp nat_cmp) (Contains self.old.malformed) self.new.malformed) }

@@ -1,8 +1,8 @@
-//! The paths of the files that are the workspace's.
+//! The paths of the workspace's own files.
 ghost use Rattle.std.specs.Prelude.{◌≡◌, IfOk};
 ghost use Rattle.deny_spans.specs.Paths.{lock_path, workspace_path};
 
-use deny_lists::{NoMemory, Text};
+use deny_base_lists::{NoMemory, Text};
 use std::alloc::Global;
 
 /// The path of the manifest in the root of a workspace.

@@ -1,43 +1,43 @@
 //! The manifest of the workspace.
 ghost use Rattle.std.specs.Prelude.{◌≡◌, ◌<◌, ◌-◌, ◌^◌, ◌++◌, [], List, Option, IfOk};
 ghost use Rattle.std.specs.Prelude.{IfSome, is_none, length, option_map, position};
-ghost use Rattle.deny_outside.specs.Disk.{IsLater};
-ghost use Rattle.deny_outside.specs.Read.{GaveAtMost, GaveOnce};
-ghost use Rattle.deny_spans.specs.Look.{home_in};
+ghost use Rattle.deny_base_disk.specs.Disk.{IsLater};
+ghost use Rattle.deny_base_disk.specs.Read.{GaveAtMost, GaveOnce};
+ghost use Rattle.deny_spans.specs.ManifestScan.{home_in};
 ghost use Rattle.deny_spans.specs.Paths.{workspace_path};
 ghost use Rattle.deny_spans.specs.private.Gathered.{broken_if};
 ghost use Rattle.deny_spans.specs.private.Workspace.{AreShared, AreSharedIf, AreSharedIn, AreSharedOf, IsKeptAlone};
 ghost use Rattle.deny_spans.specs.private.Workspace.{IsReadAlone, IsShortAt, IsWorkspaceIn, is_home, text_at};
 ghost use Rattle.deny_spans.specs.Wanted.{bytes_alone};
 ghost use Rattle.deny_toml.specs.value.Value.{Value};
-ghost use Rattle.deny_unread.specs.Added.{added};
-ghost use Rattle.deny_unread.specs.Bound.{Folders};
-ghost use Rattle.deny_unread.specs.Causes.{AreCaused};
-ghost use Rattle.deny_workspace.specs.Workspace.{AreSpans};
-ghost use Rattle.deny_workspace.specs.declared.registries.Registry.{Registry};
+ghost use Rattle.deny_base_unread.specs.Added.{added};
+ghost use Rattle.deny_base_unread.specs.Bound.{Folders};
+ghost use Rattle.deny_base_unread.specs.Causes.{AreCaused};
+ghost use Rattle.deny_spans_workspace.specs.Workspace.{AreSpans};
+ghost use Rattle.deny_spans_workspace.specs.declared.registries.Registry.{Registry};
 
 use crate::missed::Missed;
 use crate::paths::workspace_path;
 use deny_base::{FileId, Files};
+use deny_base_disk::PackageFiles;
+use deny_base_lists::{List, NoMemory, Text};
+use deny_base_unread::read_manifest;
 use deny_krates::{Krate, Krates};
-use deny_lists::{List, NoMemory, Text};
-use deny_outside::PackageFiles;
+use deny_spans_workspace::{Registry, WorkspaceDeps, workspace_deps};
 use deny_toml::{TomlError, parse};
-use deny_unread::read_manifest;
-use deny_workspace::{Registry, WorkspaceDeps, workspace_deps};
 use std::alloc::Global;
 
 /// The manifest of the workspace.
 #[derive(Drop)]
 pub struct Workspace<'k> {
-    /// The number of the file that it is kept as; none where it was not read or is no UTF-8.
+    /// The number of the file that the manifest is kept as; none where it was not read or is no UTF-8.
     pub id: Option<FileId>,
-    /// What its dependencies resolve to; none where it has no tree.
+    /// What the workspace's dependencies resolve to; none where the manifest has no tree.
     pub deps: Option<WorkspaceDeps<'k>>,
 }
 
-/// The manifest in the root of the workspace: that of the first crate which it is, or else it is read
-/// alone. The numbers are those of the files of crates, by their places.
+/// The manifest in the root of the workspace: that of the first crate whose manifest it is, or else it is
+/// read on its own. `numbers` has the numbers of the files of crates, by their places.
 pub fn workspace_of<'k, D: PackageFiles>(
     alloc: Global,
     krates: &'k Krates,
@@ -111,7 +111,8 @@ fn source_of(files: &Files, id: Option<FileId>) -> Option<&str>
     files.source(id?)
 }
 
-/// What the dependencies of a workspace resolve to that has this text; none where it has no tree.
+/// What the dependencies of the workspace resolve to, by the text of its manifest; none where that has no
+/// tree.
 fn deps_in<'k>(
     alloc: Global,
     krates: &'k Krates,
@@ -164,7 +165,7 @@ fn alone<'k, D: PackageFiles>(
     }
 }
 
-/// The workspace's manifest with these bytes. Where it has no tree, its path is put at the end.
+/// The workspace's manifest with these bytes. Where it has no tree, its path is added to the malformed.
 fn of_bytes<'k>(
     alloc: Global,
     krates: &'k Krates,
@@ -211,7 +212,7 @@ fn keep_alone<'k>(
     }
 }
 
-/// What a workspace's dependencies resolve to; where there are none, nothing stands for any crate.
+/// What the workspace's dependencies resolve to; where there is nothing, no entry stands for any crate.
 pub fn shared_or_none<'k>(
     alloc: Global,
     krates: &'k Krates,

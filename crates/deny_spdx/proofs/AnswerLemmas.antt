@@ -1,9 +1,9 @@
--- A reader that keeps to a grammar answers as that says.
-use Rattle.std.proofs.Common.{◌≡◌, ℕ, List, [], ◌∷◌, ◌++◌, length, Option, Some, None, Result, Err, sym, ◌∙◌, ap, subst}
+-- A reader that keeps to a grammar returns what the grammar says.
+use Rattle.std.proofs.Common.{◌≡◌, ℕ, List, [], ◌∷◌, ◌++◌, length, Option, Some, None, Err, sym, ◌∙◌, ap}
 use Rattle.std.proofs.Common.{arith}
 use Rattle.deny_spdx.specs.declared.error.SpdxError.{SpdxError}
 use Rattle.deny_spdx.specs.declared.error.SpdxError.TheVariants.{Bad, Memory}
-use Rattle.deny_spdx.specs.declared.token.Token.{Token}
+use Rattle.deny_spdx.specs.declared.token.SpdxToken.{SpdxToken}
 use Rattle.deny_spdx.specs.private.Reader.{run_by}
 use Rattle.deny_spdx.specs.Bad.{Spells, AreWhole, Begin, GoesWrong, ends, no_token, token, IsBadAt}
 use Rattle.deny_spdx.specs.private.Bad.{IsAnswer}
@@ -12,15 +12,15 @@ use Rattle.deny_spdx.specs.private.Reading.{IsRead, IsStuck, StopsAt, Stops, NoB
 use Rattle.deny_spdx.proofs.StepsLemmas.{LeadsTo, run_by-stuck}
 use Rattle.deny_spdx.proofs.BadLemmas.{IsClear}
 
--- the reader takes what S spells, and nothing else
-pub record KeepsTo {R A : Type 0} (S : List Token → A → Type 0) (step : R → Token → Option R) (start : R)
+-- The reader reads exactly what S spells.
+pub record KeepsTo {R A : Type 0} (S : List SpdxToken → A → Type 0) (step : R → SpdxToken → Option R) (start : R)
     (whole : R → Option A) : Type 0 where
-  pub reads : (tokens : List Token) (x : A) → S tokens x → LeadsTo step start whole tokens x
-  pub spelled : (tokens : List Token) (r : R) (x : A) → run_by step start tokens ≡ Some r → whole r ≡ Some x
+  pub reads : (tokens : List SpdxToken) (x : A) → S tokens x → LeadsTo step start whole tokens x
+  pub spelled : (tokens : List SpdxToken) (r : R) (x : A) → run_by step start tokens ≡ Some r → whole r ≡ Some x
       → S tokens x
-  pub begins : (tokens : List Token) (r : R) → run_by step start tokens ≡ Some r → Begin S tokens
+  pub begins : (tokens : List SpdxToken) (r : R) → run_by step start tokens ≡ Some r → Begin S tokens
 
-pub is_clear : {R A : Type 0} (S : List Token → A → Type 0) (step : R → Token → Option R) (start : R) (whole : R
+pub is_clear : {R A : Type 0} (S : List SpdxToken → A → Type 0) (step : R → SpdxToken → Option R) (start : R) (whole : R
     → Option A) → KeepsTo S step start whole → IsClear S
 is_clear {R} {A} S step start whole k tokens x y d e =
     let first = k.reads tokens x d in
@@ -30,14 +30,15 @@ is_clear {R} {A} S step start whole k tokens x y d e =
     let found : Some x ≡ Some y = sym first.is ∙ (ap whole same ∙ second.is) in
     cc
 
-pub spells : {R A : Type 0} (S : List Token → A → Type 0) (step : R → Token → Option R) (start : R) (whole : R
+pub spells : {R A : Type 0} (S : List SpdxToken → A → Type 0) (step : R → SpdxToken → Option R) (start : R) (whole : R
     → Option A) → KeepsTo S step start whole → (text : List ℕ) (last : R) (found : Option A) (x : A)
     → IsRead step start text last → found ≡ whole last → found ≡ Some x → Spells S text x
 spells S step start whole k text last found x d e f = record
     { tokens = d.tokens; all = d.all; spelled = k.spelled d.tokens last x d.runs (sym e ∙ f) }
 
-not_whole : {R A : Type 0} (S : List Token → A → Type 0) (step : R → Token → Option R) (start : R) (whole : R
-    → Option A) → KeepsTo S step start whole → (tokens : List Token) (last : R) → run_by step start tokens ≡ Some last
+not_whole : {R A : Type 0} (S : List SpdxToken → A → Type 0) (step : R → SpdxToken → Option R) (start : R) (whole : R
+    → Option A) → KeepsTo S step start whole → (tokens : List SpdxToken) (last : R) → run_by step start tokens ≡ Some
+    last
     → whole last ≡ None → AreWhole S tokens → ⊥
 not_whole S step start whole k tokens last runs nothing w =
     let lead = k.reads tokens w.0 w.1 in
@@ -47,7 +48,7 @@ not_whole S step start whole k tokens last runs nothing w =
     cc
 
 -- the text ends too early
-pub ends_bad : {R A : Type 0} (S : List Token → A → Type 0) (step : R → Token → Option R) (start : R) (whole : R
+pub ends_bad : {R A : Type 0} (S : List SpdxToken → A → Type 0) (step : R → SpdxToken → Option R) (start : R) (whole : R
     → Option A) → KeepsTo S step start whole → (text : List ℕ) (last : R) (found : Option A)
     → IsRead step start text last → found ≡ whole last → found ≡ None → IsBadAt S text (length text)
 ends_bad S step start whole k text last found d e f = record {
@@ -59,8 +60,9 @@ ends_bad S step start whole k text last found d e f = record {
   at = omega arith;
 }
 
-wrong_at : {R A : Type 0} (S : List Token → A → Type 0) (step : R → Token → Option R) (start : R) (whole : R → Option A)
-    → KeepsTo S step start whole → (tokens : List Token) (last : R) (rest : List ℕ)
+wrong_at : {R A : Type 0} (S : List SpdxToken → A → Type 0) (step : R → SpdxToken → Option R) (start : R)
+    (whole : R → Option A)
+    → KeepsTo S step start whole → (tokens : List SpdxToken) (last : R) (rest : List ℕ)
     → run_by step start tokens ≡ Some last → NoBlankFirst rest → IsStuck step last rest → GoesWrong S tokens rest
 wrong_at S step start whole k tokens last rest runs plain (reading.no_token b other) = no_token b plain other
 wrong_at {A = A} S step start whole k tokens last rest runs plain (reading.token t begins stuck) = token t begins
@@ -72,8 +74,9 @@ wrong_at {A = A} S step start whole k tokens last rest runs plain (reading.token
         let nowhere : Some lead.to ≡ None = sym lead.runs ∙ run_by-stuck step start last tokens b.0 t runs stuck in
         cc
 
--- a byte or a token can't stand there
-pub stops_bad : {R A : Type 0} (S : List Token → A → Type 0) (step : R → Token → Option R) (start : R) (whole : R
+-- a byte or a token may not come at an offset
+pub stops_bad : {R A : Type 0} (S : List SpdxToken → A → Type 0) (step : R → SpdxToken → Option R) (start : R)
+    (whole : R
     → Option A) → KeepsTo S step start whole → (text : List ℕ) (offset : ℕ) → StopsAt step start text offset
     → IsBadAt S text offset
 stops_bad S step start whole k text offset d = record {
@@ -85,12 +88,9 @@ stops_bad S step start whole k text offset d = record {
   at = d.at;
 }
 
-pub stops_answer : {R A : Type 0} (S : List Token → A → Type 0) (step : R → Token → Option R) (start : R) (whole : R
+pub stops_answer : {R A : Type 0} (S : List SpdxToken → A → Type 0) (step : R → SpdxToken → Option R) (start : R)
+    (whole : R
     → Option A) → KeepsTo S step start whole → (text : List ℕ) (e : SpdxError) → Stops step start text e
     → IsAnswer S text (Err e)
 stops_answer S step start whole k text (Bad offset) d = stops_bad S step start whole k text offset d
 stops_answer S step start whole k text Memory d = tt
-
-pub refused_at : {A : Type 0} (S : List Token → A → Type 0) (text : List ℕ) (result : Result A SpdxError) (offset : ℕ)
-    → IsAnswer S text result → result ≡ Err (Bad offset) → IsBadAt S text offset
-refused_at {A} S text result offset d e = let P : Result A SpdxError → Type 0 = λ x. IsAnswer S text x in subst P e d

@@ -1,4 +1,4 @@
--- What a text means as one requirement is what it spells.
+-- The meaning of a text as one requirement is the requirement that it spells.
 use Rattle.std.proofs.Common.{◌≡◌, ◌≢◌, ℕ, ◌<◌, ◌==◌, ◌&&◌, if◌then◌else◌, Bool, true, false, cond, not, List, [], ◌∷◌}
 use Rattle.std.proofs.Common.{◌++◌, length, map, filter, Option, Some, None, Result, Ok, Err, refl, sym, ◌∙◌, ap, subst}
 use Rattle.std.proofs.Common.{append_assoc, append-nil, ◌⊎◌, inl, inr, nat_lt, arith}
@@ -7,9 +7,9 @@ use Rattle.std.proofs.lemmas.List.Splits.{slice_split-cons_yes, slice_split-cons
 use Rattle.std.proofs.lemmas.List.Folds.{list_all-append}
 use Rattle.std.proofs.lemmas.Bool.{and_parts, ltb-true}
 use Rattle.std.proofs.lemmas.Bool.Decides.{nat_tests}
-use Rattle.deny_lists.proofs.Booleans.{and-false}
-use Rattle.deny_spdx.specs.declared.token.Token.{Token}
-use Rattle.deny_spdx.specs.declared.token.Token.TheVariants.{Word, With, And, Or, Open, Close}
+use Rattle.deny_base_lists.proofs.Booleans.{and-false}
+use Rattle.deny_spdx.specs.declared.token.SpdxToken.{SpdxToken}
+use Rattle.deny_spdx.specs.declared.token.SpdxToken.TheVariants.{Word, With, And, Or, Open, Close}
 use Rattle.deny_spdx.specs.declared.requirement.Requirement.{Requirement}
 use Rattle.deny_spdx.specs.declared.error.SpdxError.{SpdxError}
 use Rattle.deny_spdx.specs.declared.error.SpdxError.TheVariants.{Bad, Memory}
@@ -44,7 +44,7 @@ first_of_word x xs e = (and_parts (is_word_byte x) (list_all is_word_byte xs) e)
 rest_of_word : (x : ℕ) (xs : List ℕ) → AreWordBytes (x ∷ xs) → AreWordBytes xs
 rest_of_word x xs e = (and_parts (is_word_byte x) (list_all is_word_byte xs) e).1
 
--- no blank is put into a word
+-- no blank is inserted into a word
 spaced_word : (w rest : List ℕ) → AreWordBytes w → spaced (w ++ rest) ≡ w ++ spaced rest
 spaced_word [] rest e = refl
 spaced_word (x ∷ xs) rest e =
@@ -152,10 +152,10 @@ plus_token w =
 token_of_plus : (w : List ℕ) → IsWord w → part_token (w ++ 43 ∷ []) ≡ Some (Word w)
 token_of_plus w d = plus_token w ∙ ap (λ c. if c then Some (Word w) else None) (word_test w d)
 
--- ---- what is spelled is meant
+-- ---- what is spelled is the meaning
 
 -- words and WITH alone
-abbrev AreNames : List Token → Type 0
+abbrev AreNames : List SpdxToken → Type 0
 AreNames [] = Unit {0}
 AreNames (Word w ∷ ts) = AreNames ts
 AreNames (With ∷ ts) = AreNames ts
@@ -164,7 +164,7 @@ AreNames (Or ∷ ts) = ⊥
 AreNames (Open ∷ ts) = ⊥
 AreNames (Close ∷ ts) = ⊥
 
-names_behind : (t : Token) (ts : List Token) → AreNames (t ∷ ts) → AreNames ts
+names_behind : (t : SpdxToken) (ts : List SpdxToken) → AreNames (t ∷ ts) → AreNames ts
 names_behind (Word w) ts names = names
 names_behind With ts names = names
 names_behind And ts names = absurd names
@@ -172,8 +172,8 @@ names_behind Or ts names = absurd names
 names_behind Open ts names = absurd names
 names_behind Close ts names = absurd names
 
--- where a word ends no other word begins
-no_name : {rest after : List ℕ} {t : Token} (ts : List Token) → EndsWord rest → BeginsWith rest t after
+-- no word begins where a word ends
+no_name : {rest after : List ℕ} {t : SpdxToken} (ts : List SpdxToken) → EndsWord rest → BeginsWith rest t after
     → AreNames (t ∷ ts) → ⊥
 no_name ts ends (word [] d other) names = omega (arith, d.some)
 no_name ts ends (word (x ∷ xs) d other) names = let is : is_word_byte x ≡ true = first_of_word x xs d.each in
@@ -188,8 +188,8 @@ no_name ts ends closing names = names
 abbrev AtEnd : List ℕ → Type 0
 AtEnd rest = (rest ≡ []) ⊎ ((b : ℕ) × (bs : List ℕ) × (rest ≡ b ∷ bs) × (is_blank b ≡ true))
 
--- behind a word a blank follows, or nothing
-at_end : {rest last : List ℕ} {tokens : List Token} → last ≡ [] → EndsWord rest → HasTokens rest tokens last
+-- a word is followed by a blank, or by nothing
+at_end : {rest last : List ℕ} {tokens : List SpdxToken} → last ≡ [] → EndsWord rest → HasTokens rest tokens last
     → AreNames tokens → AtEnd rest
 at_end e ends none names = inl e
 at_end e ends (blank b {text} is d) names = inr (b, text, refl, is)
@@ -201,15 +201,17 @@ word_then w rest d (inl e) = let P : List ℕ → Type 0 = λ x. parts_of (w ++ 
 word_then w rest d (inr f) = let P : List ℕ → Type 0 = λ x. parts_of (w ++ x) ≡ w ∷ parts_of x in
     subst P (sym f.2) (parts_word w f.0 f.1 d f.3 ∙ ap (λ parts. w ∷ parts) (sym (parts_blank f.0 f.1 f.3)))
 
-abbrev tokens_at : List ℕ → List (Option Token)
+abbrev tokens_at : List ℕ → List (Option SpdxToken)
 tokens_at text = map part_token (parts_of text)
 
-prefix_token : (text part : List ℕ) (parts : List (List ℕ)) (t : Token) (ts : List Token) → parts_of text ≡ part ∷ parts
+prefix_token : (text part : List ℕ) (parts : List (List ℕ)) (t : SpdxToken) (ts : List SpdxToken)
+    → parts_of text ≡ part ∷ parts
     → part_token part ≡ Some t → map part_token parts ≡ map Some ts → tokens_at text ≡ map Some (t ∷ ts)
 prefix_token text part parts t ts e f g = ap (map part_token) e
     ∙ (ap (λ x. x ∷ map part_token parts) f ∙ ap (λ xs. Some t ∷ xs) g)
 
-parts_spelled : {text last : List ℕ} {tokens : List Token} → last ≡ [] → HasTokens text tokens last → AreNames tokens
+parts_spelled : {text last : List ℕ} {tokens : List SpdxToken} → last ≡ [] → HasTokens text tokens last
+    → AreNames tokens
     → tokens_at text ≡ map Some tokens
 parts_spelled e none names = ap tokens_at e
 parts_spelled e (blank b {text} is d) names = ap (map part_token) (parts_blank b text is) ∙ parts_spelled e d names
@@ -224,53 +226,44 @@ parts_spelled e (more slash d) names = absurd names
 parts_spelled e (more opening d) names = absurd names
 parts_spelled e (more closing d) names = absurd names
 
-requirement_names : {tokens : List Token} {r : Requirement} → IsRequirement tokens r
+requirement_names : {tokens : List SpdxToken} {r : Requirement} → IsRequirement tokens r
     → AreNames tokens × (requirement_of (map Some tokens) ≡ Some r)
 requirement_names (plain id) = (tt, refl)
 requirement_names (excepted id exception) = (tt, refl)
 
-pub meant : (text : List ℕ) (r : Requirement) → Spells IsRequirement text r → requirement_in text ≡ Some r
+meant : (text : List ℕ) (r : Requirement) → Spells IsRequirement text r → requirement_in text ≡ Some r
 unfolding requirement_in
 meant text r d = let names = requirement_names d.spelled in
     ap requirement_of (parts_spelled refl d.all names.0) ∙ names.1
 
--- ---- what is meant is spelled
+-- ---- the meaning is what is spelled
 
--- a list of tokens, taken apart
-pub record Taken (x : Option Token) (xs : List (Option Token)) (tokens : List Token) : Type 0 where
-  pub first : Token
-  pub others : List Token
+-- A list of tokens, split at the first.
+record Taken (x : Option SpdxToken) (xs : List (Option SpdxToken)) (tokens : List SpdxToken) : Type 0 where
+  pub first : SpdxToken
+  pub others : List SpdxToken
   pub all : tokens ≡ first ∷ others
   pub is : x ≡ Some first
   pub behind : xs ≡ map Some others
 
-taken : (x : Option Token) (xs : List (Option Token)) (tokens : List Token) → x ∷ xs ≡ map Some tokens
+taken : (x : Option SpdxToken) (xs : List (Option SpdxToken)) (tokens : List SpdxToken) → x ∷ xs ≡ map Some tokens
     → Taken x xs tokens
 taken x xs [] e = cc
 taken x xs (t ∷ ts) e = record { first = t; others = ts; all = refl; is = cc; behind = cc }
 
-spelled_as : (text : List ℕ) (tokens : List Token) (t : Token) (ts : List Token) → tokens ≡ t ∷ ts
+spelled_as : (text : List ℕ) (tokens : List SpdxToken) (t : SpdxToken) (ts : List SpdxToken) → tokens ≡ t ∷ ts
     → HasTokens text (t ∷ ts) [] → HasTokens text tokens []
-spelled_as text tokens t ts e d = let P : List Token → Type 0 = λ x. HasTokens text x [] in subst P (sym e) d
+spelled_as text tokens t ts e d = let P : List SpdxToken → Type 0 = λ x. HasTokens text x [] in subst P (sym e) d
 
-same_token : {t t' : Token} → Some t ≡ Some t' → t' ≡ t
+same_token : {t t' : SpdxToken} → Some t ≡ Some t' → t' ≡ t
 same_token e = cc
 
--- what is read behind a word
+-- the tokens after a word
 abbrev Goes : List ℕ → Type 0
-Goes bs = (w : List ℕ) (tokens : List Token) → AreWordBytes w → tokens_at (w ++ bs) ≡ map Some tokens
+Goes bs = (w : List ℕ) (tokens : List SpdxToken) → AreWordBytes w → tokens_at (w ++ bs) ≡ map Some tokens
     → HasTokens (w ++ bs) tokens []
 
-with_word : (w rest : List ℕ) (tokens : List Token) → IsWord w → EndsWord rest → Goes rest
-    → parts_of (w ++ rest) ≡ w ∷ parts_of rest → tokens_at (w ++ rest) ≡ map Some tokens
-    → HasTokens (w ++ rest) tokens []
-with_word w rest tokens d ends on e same =
-    let u = taken (part_token w) (tokens_at rest) tokens (sym (ap (map part_token) e) ∙ same) in
-    let first : u.first ≡ token_of w = same_token (sym (token_of_word w d) ∙ u.is) in
-    spelled_as (w ++ rest) tokens (token_of w) u.others (u.all ∙ ap (λ t. t ∷ u.others) first)
-    (more (word w d ends) (on [] u.others refl u.behind))
-
-if_word : (c : Bool) (w : List ℕ) (t : Token) → (if c then Some (Word w) else None) ≡ Some t
+if_word : (c : Bool) (w : List ℕ) (t : SpdxToken) → (if c then Some (Word w) else None) ≡ Some t
     → (c ≡ true) × (t ≡ Word w)
 if_word true w t e = (refl, cc)
 if_word false w t e = cc
@@ -279,7 +272,7 @@ is_word_is : (w : List ℕ) → is_word w ≡ true → IsWord w
 is_word_is w e = let parts = and_parts (nat_lt 0 (length w)) (list_all is_word_byte w) e in
     record { some = ltb-true 0 (length w) parts.0; each = parts.1 }
 
-with_plus : (w bs : List ℕ) (tokens : List Token) → AreWordBytes w → Goes bs
+with_plus : (w bs : List ℕ) (tokens : List SpdxToken) → AreWordBytes w → Goes bs
     → tokens_at (w ++ 43 ∷ bs) ≡ map Some tokens → HasTokens (w ++ 43 ∷ bs) tokens []
 with_plus w bs tokens each on same =
     let u = taken (part_token (w ++ 43 ∷ [])) (tokens_at bs) tokens
@@ -288,7 +281,7 @@ with_plus w bs tokens each on same =
     spelled_as (w ++ 43 ∷ bs) tokens (Word w) u.others (u.all ∙ ap (λ t. t ∷ u.others) is.1)
     (more (plus w (is_word_is w is.0)) (on [] u.others refl u.behind))
 
-with_blank : (w : List ℕ) (b : ℕ) (bs : List ℕ) (tokens : List Token) → AreWordBytes w → is_blank b ≡ true → Goes bs
+with_blank : (w : List ℕ) (b : ℕ) (bs : List ℕ) (tokens : List SpdxToken) → AreWordBytes w → is_blank b ≡ true → Goes bs
     → tokens_at (w ++ b ∷ bs) ≡ map Some tokens → HasTokens (w ++ b ∷ bs) tokens []
 with_blank [] b bs tokens each is on same = blank b is
     (on [] tokens refl (sym (ap (map part_token) (parts_blank b bs is)) ∙ same))
@@ -301,7 +294,8 @@ with_blank (x ∷ xs) b bs tokens each is on same =
     spelled_as ((x ∷ xs) ++ b ∷ bs) tokens (token_of (x ∷ xs)) u.others (u.all ∙ ap (λ t. t ∷ u.others) first)
     (more (word (x ∷ xs) d ((blank_other b is).0, no_plus)) (blank b is (on [] u.others refl u.behind)))
 
-with_byte : (w : List ℕ) (b : ℕ) (bs : List ℕ) (tokens : List Token) → AreWordBytes w → is_word_byte b ≡ true → Goes bs
+with_byte : (w : List ℕ) (b : ℕ) (bs : List ℕ) (tokens : List SpdxToken) → AreWordBytes w → is_word_byte b ≡ true
+    → Goes bs
     → tokens_at (w ++ b ∷ bs) ≡ map Some tokens → HasTokens (w ++ b ∷ bs) tokens []
 with_byte w b bs tokens each is on same =
     let together : (w ++ b ∷ []) ++ bs ≡ w ++ b ∷ bs = append_assoc w (b ∷ []) bs in
@@ -348,7 +342,7 @@ bad_token w after b e f =
     else (if is_word (without_plus part) then Some (Word (without_plus part)) else None)) (no_word w after b e)
     ∙ ap (λ c. if c then Some (Word (without_plus part)) else None) not_bare
 
-with_bad : (w : List ℕ) (b : ℕ) (bs : List ℕ) (tokens : List Token) → AreWordBytes w → is_blank b ≡ false
+with_bad : (w : List ℕ) (b : ℕ) (bs : List ℕ) (tokens : List SpdxToken) → AreWordBytes w → is_blank b ≡ false
     → (b == 43) ≡ false → is_word_byte b ≡ false → tokens_at (w ++ b ∷ bs) ≡ map Some tokens → ⊥
 with_bad w b bs tokens each no_blank no_plus no_byte same =
     let d = split_bad w b (spaced bs) each no_blank in
@@ -361,7 +355,7 @@ with_bad w b bs tokens each no_blank no_plus no_byte same =
     let nothing : None ≡ Some u.first = sym (bad_token w d.0 b no_byte no_plus) ∙ u.is in
     cc
 
-goes_on : (w : List ℕ) (b : ℕ) (bs : List ℕ) (tokens : List Token) → AreWordBytes w → Goes bs
+goes_on : (w : List ℕ) (b : ℕ) (bs : List ℕ) (tokens : List SpdxToken) → AreWordBytes w → Goes bs
     → tokens_at (w ++ b ∷ bs) ≡ map Some tokens
     → (is : Bool) → is_blank b ≡ is → (ends : Bool) → (b == 43) ≡ ends → (goes : Bool) → is_word_byte b ≡ goes
     → HasTokens (w ++ b ∷ bs) tokens []
@@ -373,7 +367,7 @@ goes_on w b bs tokens each on same false is true e goes f =
 goes_on w b bs tokens each on same false is false e true f = with_byte w b bs tokens each f on same
 goes_on w b bs tokens each on same false is false e false f = absurd (with_bad w b bs tokens each is e f same)
 
-at_last : (w : List ℕ) (tokens : List Token) → AreWordBytes w → tokens_at (w ++ []) ≡ map Some tokens
+at_last : (w : List ℕ) (tokens : List SpdxToken) → AreWordBytes w → tokens_at (w ++ []) ≡ map Some tokens
     → HasTokens (w ++ []) tokens []
 at_last [] [] each same = none
 at_last [] (t ∷ ts) each same = cc
@@ -387,7 +381,7 @@ at_last (x ∷ xs) tokens each same =
     ∙ ap (λ os. token_of (x ∷ xs) ∷ os) empty) in
     spelled_as ((x ∷ xs) ++ []) tokens (token_of (x ∷ xs)) [] ts (more (word (x ∷ xs) d tt) none)
   where
-    no_more : (ts : List Token) → [] ≡ map Some ts → ts ≡ []
+    no_more : (ts : List SpdxToken) → [] ≡ map Some ts → ts ≡ []
     no_more [] e = refl
     no_more (t ∷ ts) e = cc
 
@@ -396,14 +390,15 @@ spelled_parts [] w tokens each same = at_last w tokens each same
 spelled_parts (b ∷ bs) w tokens each same = goes_on w b bs tokens each (spelled_parts bs) same
     (is_blank b) refl (b == 43) refl (is_word_byte b) refl
 
-abbrev IsShaped : List (Option Token) → Requirement → Type 0
-IsShaped found r = (tokens : List Token) × (found ≡ map Some tokens) × IsRequirement tokens r
+abbrev IsShaped : List (Option SpdxToken) → Requirement → Type 0
+IsShaped found r = (tokens : List SpdxToken) × (found ≡ map Some tokens) × IsRequirement tokens r
 
-shaped_as : (found : List (Option Token)) (q r : Requirement) → Some q ≡ Some r → IsShaped found q → IsShaped found r
+shaped_as : (found : List (Option SpdxToken)) (q r : Requirement) → Some q ≡ Some r → IsShaped found q
+    → IsShaped found r
 shaped_as found q r e d = let same : q ≡ r = cc in let P : Requirement → Type 0 =
     λ x. IsShaped found x in subst P same d
 
-shaped : (found : List (Option Token)) (r : Requirement) → requirement_of found ≡ Some r → IsShaped found r
+shaped : (found : List (Option SpdxToken)) (r : Requirement) → requirement_of found ≡ Some r → IsShaped found r
 shaped (Some (Word id) ∷ []) r e = shaped_as _ _ r e (Word id ∷ [], refl, plain id)
 shaped (Some (Word id) ∷ Some With ∷ Some (Word exception) ∷ []) r e = shaped_as _ _ r e
     (Word id ∷ With ∷ Word exception ∷ [], refl, excepted id exception)
@@ -414,7 +409,7 @@ unfolding requirement_in
 spelled text r e = let d = shaped (tokens_at text) r e in
     record { tokens = d.0; all = spelled_parts text [] d.0 refl d.1; spelled = d.2 }
 
--- ---- what is read is what the text means
+-- ---- what is read is the meaning of the text
 
 nothing_meant : (text : List ℕ) (found : Option Requirement) → requirement_in text ≡ found
     → ((r : Requirement) → Spells IsRequirement text r → ⊥) → found ≡ None

@@ -1,4 +1,4 @@
--- What texts mean as one requirement, by computing.
+-- The meanings of texts as one requirement, computed.
 use Rattle.std.proofs.Common.{◌≡◌, ℕ, List, [], Some, None, refl}
 use Rattle.std.specs.Prelude.{codes}
 use Rattle.deny_spdx.specs.declared.requirement.Requirement.{Requirement}

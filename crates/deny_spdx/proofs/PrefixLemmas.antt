@@ -1,4 +1,4 @@
--- What stands at the begin of a text.
+-- The token at the start of a text.
 use Rattle.std.proofs.Common.{◌≡◌, ◌≢◌, ℕ, zero, suc, ◌+◌, ◌<◌, ◌≤◌, ◌||◌, Bool, true, false, cond, List, [], ◌∷◌, ◌++◌}
 use Rattle.std.proofs.Common.{length, take, drop, get_or, Option, Some, None, refl, sym, ◌∙◌, ap, subst, arith}
 use Rattle.std.proofs.Common.{slice_get, nat_le, ◌==◌, if◌then◌else◌, length-take, drop-cons, add-one}
@@ -7,12 +7,12 @@ use Rattle.std.specs.List.{prefix_len}
 use Rattle.std.proofs.lemmas.Bool.Decides.{nat_tests}
 use Rattle.std.proofs.lemmas.List.{take-append-drop}
 use Rattle.std.proofs.lemmas.List.Sums.{prefix_len_stops, prefix_len-le-length}
-use Rattle.deny_lists.proofs.PrefixLemmas.{list_all-take}
-use Rattle.deny_spdx.specs.declared.token.Token.{Token}
-use Rattle.deny_spdx.specs.declared.token.Token.TheVariants as token
+use Rattle.deny_base_lists.proofs.PrefixLemmas.{list_all-take}
+use Rattle.deny_spdx.specs.declared.token.SpdxToken.{SpdxToken}
+use Rattle.deny_spdx.specs.declared.token.SpdxToken.TheVariants as token
 use Rattle.deny_spdx.specs.declared.token.Prefix.{Prefix}
 use Rattle.deny_spdx.specs.declared.token.Prefix.TheVariants as prefix
-use Rattle.deny_lists.proofs.Texts.{prefix_within, prefix_passes, first_byte}
+use Rattle.deny_base_lists.proofs.Texts.{prefix_within, prefix_passes, first_byte}
 use Rattle.deny_spdx.specs.Tokens.{is_word_byte, begins_token, IsWord, EndsWord, BeginsWith, word, plus, slash, opening}
 use Rattle.deny_spdx.specs.Tokens.{closing, token_of}
 use Rattle.deny_spdx.specs.private.Prefix.{HasTokenPrefix, HasPrefix, mark_of, is_plus}
@@ -34,7 +34,7 @@ some_word (x ∷ xs) b e f =
     let P : Bool → Type 0 = λ y. 0 < cond y (1 + prefix_len is_word_byte xs) 0 in
     subst P (sym holds) (omega arith)
 
--- the first byte of what is left is the byte there
+-- the first byte of the rest is the byte at its index
 at_drop : (n : ℕ) (xs : List ℕ) (b : ℕ) → slice_get (drop n xs) 0 ≡ Some b → (n < length xs) × (get_or xs n 0 ≡ b)
 at_drop zero [] b e = cc
 at_drop zero (x ∷ xs) b e = (omega arith, cc)
@@ -53,7 +53,7 @@ ends_at : (rest : List ℕ) → ((b : ℕ) → slice_get rest 0 ≡ Some b → i
 ends_at [] none plain = tt
 ends_at (b ∷ bs) none plain = (none b refl, no_plus_byte b plain)
 
--- what stands behind the bytes of a word ends it, if no plus comes first
+-- the bytes after a word end it, if no plus comes first
 ends_word : (text : List ℕ) → is_plus (slice_get (drop (prefix_len is_word_byte text) text) 0) ≡ false
     → EndsWord (drop (prefix_len is_word_byte text) text)
 ends_word text no_plus = ends_at (drop (prefix_len is_word_byte text) text)
@@ -96,14 +96,15 @@ counted : (text bytes : List ℕ) (n : ℕ) → bytes ≡ text → n ≡ prefix_
 counted text bytes n e f = f ∙ ap (prefix_len is_word_byte) e
 
 -- a word that no plus follows
-pub word_prefix : (text bytes w after : List ℕ) (n : ℕ) (t : Token) → 0 < prefix_len is_word_byte text → bytes ≡ text
+pub word_prefix : (text bytes w after : List ℕ) (n : ℕ) (t : SpdxToken) → 0 < prefix_len is_word_byte text
+    → bytes ≡ text
     → n ≡ prefix_len is_word_byte bytes → w ≡ take n text → after ≡ drop n text → is_plus (slice_get after 0) ≡ false
     → t ≡ token_of w → HasTokenPrefix text t n
 word_prefix text bytes w after n t some e f first rest no_plus is = record {
   begins =
       (let same : n ≡ prefix_len is_word_byte text = counted text bytes n e f in
       let P : ℕ → Type 0 = λ m. BeginsWith text (token_of (take m text)) (drop m text) in
-      let Q : Token → Type 0 = λ x. BeginsWith text x (drop n text) in
+      let Q : SpdxToken → Type 0 = λ x. BeginsWith text x (drop n text) in
       subst Q (ap token_of (sym first) ∙ sym is)
       (subst P (sym same) (word_begins text some (ap (λ m. is_plus (slice_get (drop m text) 0)) (sym same)
       ∙ (ap (λ x. is_plus (slice_get x 0)) (sym rest) ∙ no_plus)))));
@@ -140,7 +141,8 @@ plus_prefix text bytes w after n id some e f first rest is_plus_next is =
       ascii = plus_ascii text n (words_ascii text bytes n e f) h.1;
     }
 
-one_byte : (b : ℕ) (rest : List ℕ) (t : Token) → b < 128 → BeginsWith (b ∷ rest) t rest → HasTokenPrefix (b ∷ rest) t 1
+one_byte : (b : ℕ) (rest : List ℕ) (t : SpdxToken) → b < 128 → BeginsWith (b ∷ rest) t rest
+    → HasTokenPrefix (b ∷ rest) t 1
 one_byte b rest t small begins = record {
   begins = begins;
   within = omega arith;

@@ -2,32 +2,33 @@
 use Rattle.std.proofs.Common.{◌≡◌, ℕ, suc, ◌+◌, ◌-◌, ◌<◌, ◌≤◌, Bool, true, false, cond, List, [], ◌∷◌, ◌++◌, length}
 use Rattle.std.proofs.Common.{drop, Option, Some, None, refl, sym, ◌∙◌, ap, subst, arith, length-drop, option_and_then}
 use Rattle.std.specs.List.{prefix_len}
-use Rattle.deny_spdx.specs.declared.token.Token.{Token}
+use Rattle.deny_spdx.specs.declared.token.SpdxToken.{SpdxToken}
 use Rattle.deny_spdx.specs.declared.token.Prefix.{Prefix}
 use Rattle.deny_spdx.specs.declared.token.Prefix.TheVariants as prefix
 use Rattle.deny_spdx.specs.Tokens.{is_blank, HasTokens, none, blank, more}
 use Rattle.deny_spdx.specs.private.Prefix.{HasTokenPrefix, HasPrefix}
-use Rattle.deny_spdx.specs.declared.reading.Turn.{Turn}
-use Rattle.deny_spdx.specs.declared.reading.Turn.TheVariants.{On, Wrong}
+use Rattle.deny_spdx.specs.declared.reading.TokenStep.{TokenStep}
+use Rattle.deny_spdx.specs.declared.reading.TokenStep.TheVariants.{On, Wrong}
 use Rattle.deny_spdx.specs.private.Reading.{no_token, token}
-use Rattle.deny_spdx.specs.private.Reading.{NoBlankFirst, IsTurn, IsStuck, StepsOn, IsReadTo, StopsAt, IsRead}
+use Rattle.deny_spdx.specs.private.Reading.{NoBlankFirst, IsTurn, IsStuck, StepsOn, IsReadTo, StopsAt}
 use Rattle.deny_spdx.proofs.StepsLemmas.{run_by-append}
 use Rattle.deny_spdx.proofs.TokenLemmas.{tokens_then, rest_shorter, begins_shorter}
 
-pub stuck_byte : {R : Type 0} (step : R → Token → Option R) (r : R) (rest : List ℕ) (found : Prefix)
+pub stuck_byte : {R : Type 0} (step : R → SpdxToken → Option R) (r : R) (rest : List ℕ) (found : Prefix)
     → HasPrefix rest found → found ≡ prefix.NoToken → IsStuck step r rest
 stuck_byte step r rest prefix.End d e = cc
 stuck_byte step r rest prefix.NoToken d e = let P : List ℕ → Type 0 = λ x. IsStuck step r x in
     subst P (sym d.2) (no_token d.0 d.3)
 stuck_byte step r rest (prefix.Token t n) d e = cc
 
-pub stuck_token : {R : Type 0} (step : R → Token → Option R) (r : R) (rest : List ℕ) (found : Prefix) (t : Token)
+pub stuck_token : {R : Type 0} (step : R → SpdxToken → Option R) (r : R) (rest : List ℕ) (found : Prefix)
+    (t : SpdxToken)
     (n : ℕ) (after : Option R) → HasPrefix rest found → found ≡ prefix.Token t n → after ≡ step r t → after ≡ None
     → IsStuck step r rest
 stuck_token step r rest found t n after d e f g = let P : Prefix → Type 0 = λ x. HasPrefix rest x in
     let here : HasTokenPrefix rest t n = subst P e d in token t here.begins (sym f ∙ g)
 
--- the blanks at the begin
+-- the blanks at the start
 skipped : (text : List ℕ) → HasTokens text [] (drop (prefix_len is_blank text) text)
 skipped [] = none
 skipped (b ∷ bs) = skip_at b bs (skipped bs) (is_blank b) refl
@@ -49,14 +50,14 @@ no_blank (b ∷ bs) = no_blank_at b bs (no_blank bs) (is_blank b) refl
     no_blank_at b bs d false e = e
 
 -- before the first token
-pub read_nothing : {R : Type 0} (step : R → Token → Option R) (start : R) (text rest : List ℕ)
+pub read_nothing : {R : Type 0} (step : R → SpdxToken → Option R) (start : R) (text rest : List ℕ)
     → rest ≡ drop (prefix_len is_blank text) text → IsReadTo step start text rest start
 read_nothing step start text rest e =
     let P : List ℕ → Type 0 = λ x. IsReadTo step start text x start in
     subst P (sym e) (record { tokens = []; before = skipped text; runs = refl; plain = no_blank text })
 
--- one token more
-pub read_more : {R : Type 0} (step : R → Token → Option R) (start last after : R) (text rest behind rest' : List ℕ)
+-- one more token
+pub read_more : {R : Type 0} (step : R → SpdxToken → Option R) (start last after : R) (text rest behind rest' : List ℕ)
     (n : ℕ) → IsReadTo step start text rest last → StepsOn step last rest after n → behind ≡ drop n rest
     → rest' ≡ drop (prefix_len is_blank behind) behind → IsReadTo step start text rest' after
 read_more step start last after text rest behind rest' n d s e f =
@@ -71,8 +72,8 @@ read_more step start last after text rest behind rest' n d s e f =
       plain = no_blank behind;
     })
 
--- what is left gets shorter
-pub read_shorter : {R : Type 0} (step : R → Token → Option R) (last after : R) (rest behind rest' : List ℕ) (n : ℕ)
+-- the rest gets shorter
+pub read_shorter : {R : Type 0} (step : R → SpdxToken → Option R) (last after : R) (rest behind rest' : List ℕ) (n : ℕ)
     → StepsOn step last rest after n → behind ≡ drop n rest → rest' ≡ drop (prefix_len is_blank behind) behind
     → length rest' < length rest
 read_shorter step last after rest behind rest' n s e f =
@@ -81,26 +82,21 @@ read_shorter step last after rest behind rest' n s e f =
     let there : length rest' ≡ length behind - prefix_len is_blank behind = ap length f ∙ length-drop _ behind in
     omega arith
 
-pub read_all : {R : Type 0} (step : R → Token → Option R) (start last last' : R) (text rest : List ℕ)
-    → IsReadTo step start text rest last → (rest ≡ []) × (last' ≡ last) → IsRead step start text last'
-read_all step start last last' text rest d e =
-    let P : List ℕ → Type 0 = λ x. HasTokens text d.tokens x in
-    record { tokens = d.tokens; all = subst P e.0 d.before; runs = d.runs ∙ ap Some (sym e.1) }
-
-pub read_stops : {R : Type 0} (step : R → Token → Option R) (start last : R) (text rest : List ℕ) (offset : ℕ)
+pub read_stops : {R : Type 0} (step : R → SpdxToken → Option R) (start last : R) (text rest : List ℕ) (offset : ℕ)
     → IsReadTo step start text rest last → IsStuck step last rest → offset ≡ length text - length rest
     → StopsAt step start text offset
 read_stops step start last text rest offset d s e = record
     { rest = rest; last = last; to = d; stuck = s; at = omega (arith, e, rest_shorter d.before) }
 
-pub turn_on : {R : Type 0} (step : R → Token → Option R) (r : R) (rest : List ℕ) (turn : Turn R) (after : R) (n : ℕ)
+pub turn_on : {R : Type 0} (step : R → SpdxToken → Option R) (r : R) (rest : List ℕ) (turn : TokenStep R) (after : R)
+    (n : ℕ)
     → IsTurn step r rest turn → turn ≡ On after n → StepsOn step r rest after n
-turn_on {R} step r rest turn after n d e = let P : Turn R → Type 0 = λ x. IsTurn step r rest x in subst P e d
+turn_on {R} step r rest turn after n d e = let P : TokenStep R → Type 0 = λ x. IsTurn step r rest x in subst P e d
 
-pub turn_wrong : {R : Type 0} (step : R → Token → Option R) (r : R) (rest : List ℕ) (turn : Turn R)
+pub turn_wrong : {R : Type 0} (step : R → SpdxToken → Option R) (r : R) (rest : List ℕ) (turn : TokenStep R)
     → IsTurn step r rest turn → turn ≡ Wrong → IsStuck step r rest
-turn_wrong {R} step r rest turn d e = let P : Turn R → Type 0 = λ x. IsTurn step r rest x in subst P e d
+turn_wrong {R} step r rest turn d e = let P : TokenStep R → Type 0 = λ x. IsTurn step r rest x in subst P e d
 
-pub rest_within : {R : Type 0} (step : R → Token → Option R) (start last : R) (text rest : List ℕ)
+pub rest_within : {R : Type 0} (step : R → SpdxToken → Option R) (start last : R) (text rest : List ℕ)
     → IsReadTo step start text rest last → length rest ≤ length text
 rest_within step start last text rest d = rest_shorter d.before

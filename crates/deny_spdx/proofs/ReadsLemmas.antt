@@ -1,12 +1,12 @@
--- What a text is read as is what it spells, or the offset where it goes wrong.
+-- A text is read as the expression that it spells, or bad at the offset where it goes wrong.
 use Rattle.std.proofs.Common.{◌≡◌, ◌≤◌, ℕ, ◌+◌, ◌-◌, ◌==◌, if◌then◌else◌, Bool, true, false, List, [], ◌∷◌, ◌++◌}
 use Rattle.std.proofs.Common.{length, Option, Some, None, Result, Ok, Err, refl, sym, ◌∙◌, ap, subst, append_assoc}
 use Rattle.std.proofs.Common.{append-nil, length-append, option_and_then, arith}
 use Rattle.std.specs.List.{list_all}
 use Rattle.std.proofs.lemmas.List.Folds.{list_all-append}
 use Rattle.std.proofs.lemmas.Bool.Decides.{nat_tests}
-use Rattle.deny_spdx.specs.declared.token.Token.{Token}
-use Rattle.deny_spdx.specs.declared.token.Token.TheVariants.{Word, Or, Open, Close}
+use Rattle.deny_spdx.specs.declared.token.SpdxToken.{SpdxToken}
+use Rattle.deny_spdx.specs.declared.token.SpdxToken.TheVariants.{Word, Or, Open, Close}
 use Rattle.deny_spdx.specs.declared.error.SpdxError.{SpdxError}
 use Rattle.deny_spdx.specs.declared.error.SpdxError.TheVariants as error
 use Rattle.deny_spdx.specs.declared.expression.Expression.{Expression}
@@ -29,14 +29,15 @@ use Rattle.deny_spdx.proofs.AnswerLemmas.{stops_bad}
 use Rattle.deny_spdx.proofs.KeepsLemmas.{expression_keeps, expression_clear, expression_found, expression_ends}
 use Rattle.deny_spdx.proofs.BadLemmas.{spells_same, offset_same, bad_spells}
 
--- the grammar says the same of the text
-abbrev pub IsRight : List ℕ → Reading → Type 0
+-- the grammar agrees with a reading of the text
+abbrev IsRight : List ℕ → Reading → Type 0
 IsRight text (Read e) = Spells IsExpression text e
 IsRight text (BadAt offset) = IsBadAt IsExpression text offset
 
--- before the rest stand tokens, which lead to this reader, and bytes of a word; the rest begins at an offset
-pub record IsAmid (text rest : List ℕ) (at : ℕ) (reader : Reader) (word : List ℕ) : Type 0 where
-  pub tokens : List Token
+-- The text before the rest consists of tokens, which lead to this reader, and bytes of a word; the rest begins at an
+-- offset.
+record IsAmid (text rest : List ℕ) (at : ℕ) (reader : Reader) (word : List ℕ) : Type 0 where
+  pub tokens : List SpdxToken
   pub before : HasTokens text tokens (word ++ rest)
   pub runs : run_by step start tokens ≡ Some reader
   pub each : list_all is_word_byte word ≡ true
@@ -46,14 +47,14 @@ abbrev IsProgress : List ℕ → List ℕ → ℕ → Progress → Type 0
 IsProgress text rest at (On reader w) = IsAmid text rest at reader w
 IsProgress text rest at (Bad offset) = IsBadAt IsExpression text offset
 
--- the same where no word is left that may go on
+-- the text before the rest consists of tokens, which lead to this reader, or is bad at an offset
 abbrev IsEnded : List ℕ → List ℕ → ℕ → Progress → Type 0
 IsEnded text rest at (On reader w) = IsAmid text rest at reader []
 IsEnded text rest at (Bad offset) = IsBadAt IsExpression text offset
 
 -- ---- a token
 
-plain_first : {after : List ℕ} {t : Token} (rest : List ℕ) → BeginsWith rest t after → NoBlankFirst rest
+plain_first : {after : List ℕ} {t : SpdxToken} (rest : List ℕ) → BeginsWith rest t after → NoBlankFirst rest
 plain_first [] begins = tt
 plain_first (b ∷ bs) begins = plain_at (is_blank b) refl
   where
@@ -61,8 +62,8 @@ plain_first (b ∷ bs) begins = plain_at (is_blank b) refl
     plain_at true e = absurd (not_blank b bs begins refl e)
     plain_at false e = e
 
--- the reader can't go on behind these tokens
-stuck_bad : (text rest : List ℕ) (offset : ℕ) (reader : Reader) (tokens : List Token) → HasTokens text tokens rest
+-- the reader cannot continue after these tokens
+stuck_bad : (text rest : List ℕ) (offset : ℕ) (reader : Reader) (tokens : List SpdxToken) → HasTokens text tokens rest
     → run_by step start tokens ≡ Some reader → NoBlankFirst rest → IsStuck step reader rest
     → offset + length rest ≡ length text → IsBadAt IsExpression text offset
 stuck_bad text rest offset reader tokens before runs plain stuck at =
@@ -74,8 +75,8 @@ stuck_bad text rest offset reader tokens before runs plain stuck at =
       at = at;
     })
 
--- a token that takes the bytes of the word and some of the rest
-taken_ended : {text rest after w : List ℕ} {at : ℕ} {reader : Reader} {t : Token} (offset behind : ℕ)
+-- a token that has the bytes of the word and some of the rest
+taken_ended : {text rest after w : List ℕ} {at : ℕ} {reader : Reader} {t : SpdxToken} (offset behind : ℕ)
     → IsAmid text rest at reader w → BeginsWith (w ++ rest) t after
     → offset + length (w ++ rest) ≡ length text → behind + length after ≡ length text
     → (o : Option Reader) → step reader t ≡ o → IsEnded text after behind (taken o offset)
@@ -90,7 +91,7 @@ taken_ended {after = after} {reader = reader} {t = t} offset behind d begins her
   offset = there;
 }
 
--- behind a token no word is left
+-- no word is left after a token
 taken_progress : (text rest : List ℕ) (at offset : ℕ) (o : Option Reader) → IsEnded text rest at (taken o offset)
     → IsProgress text rest at (taken o offset)
 taken_progress text rest at offset None d = d
@@ -107,7 +108,7 @@ byte_bad text bytes b at reader d plain nothing =
 some_bytes : (x : ℕ) (xs : List ℕ) → (length (x ∷ xs) == 0) ≡ false
 some_bytes x xs = grind (arith, nat_tests)
 
--- the offset of the word's first byte
+-- the offset of the first byte of the word
 word_begins : {text rest : List ℕ} {at : ℕ} {reader : Reader} (w : List ℕ) → IsAmid text rest at reader w
     → (at - length w) + length (w ++ rest) ≡ length text
 word_begins {text} {rest} {at} w d =
@@ -147,7 +148,7 @@ plus_is_ended text bytes at reader (x ∷ xs) d =
 
 blank_taken : (text bytes : List ℕ) (b at : ℕ) (reader : Reader) → IsAmid text (b ∷ bytes) at reader []
     → is_blank b ≡ true → IsAmid text bytes (at + 1) reader []
-blank_taken text bytes b at reader d is = let P : List Token → Type 0 = λ x. HasTokens text x bytes in record {
+blank_taken text bytes b at reader d is = let P : List SpdxToken → Type 0 = λ x. HasTokens text x bytes in record {
   tokens = d.tokens;
   before = subst P (append-nil d.tokens) (tokens_then bytes [] d.before (blank b is none));
   runs = d.runs;
@@ -155,7 +156,7 @@ blank_taken text bytes b at reader d is = let P : List Token → Type 0 = λ x. 
   offset = behind_byte text bytes b at d.offset;
 }
 
-one_byte : (text bytes : List ℕ) (b at : ℕ) (reader : Reader) (t : Token) → IsAmid text (b ∷ bytes) at reader []
+one_byte : (text bytes : List ℕ) (b at : ℕ) (reader : Reader) (t : SpdxToken) → IsAmid text (b ∷ bytes) at reader []
     → BeginsWith (b ∷ bytes) t bytes → IsProgress text bytes (at + 1) (taken (step reader t) at)
 one_byte text bytes b at reader t d begins = taken_progress text bytes (at + 1) at (step reader t)
     (taken_ended at (at + 1) d begins d.offset (behind_byte text bytes b at d.offset) (step reader t) refl)
@@ -254,7 +255,7 @@ reading_right text = read_right text start [] 0 text
 pub right_as : (text : List ℕ) (found : Reading) → reading_in text ≡ found → IsRight text found
 right_as text found e = let P : Reading → Type 0 = λ x. IsRight text x in subst P e (reading_right text)
 
--- ---- what is parsed is what the text is read as
+-- ---- the result of parsing is the reading of the text
 
 read_same : (text : List ℕ) (e : Expression) (found : Reading) → Spells IsExpression text e → IsRight text found
     → found ≡ Read e

@@ -1,4 +1,4 @@
--- What texts are read as, by computing.
+-- The readings of texts, computed.
 use Rattle.std.proofs.Common.{◌≡◌, ℕ, zero, suc, List, [], ◌∷◌, ◌++◌, map, None, refl}
 use Rattle.std.specs.Prelude.{codes}
 use Rattle.deny_spdx.specs.declared.requirement.Requirement.{Requirement}
@@ -15,7 +15,7 @@ licence id = record { id = id; exception = None }
 abbrev read : List Requirement → Tree → Reading
 read requirements whole = Read (record { requirements = requirements; tree = whole })
 
--- the requirements of these numbers, all or one of them
+-- the requirements with these numbers, all or one of them
 abbrev all : List ℕ → Tree
 all numbers = tree.All (map tree.Requirement numbers)
 
@@ -31,12 +31,12 @@ a = licence (codes "A")
 abbrev b : Requirement
 b = licence (codes "B")
 
--- A in so many parentheses
+-- A in this many parentheses
 grouped : ℕ → List ℕ
 grouped zero = codes "A"
 grouped (suc n) = codes "(" ++ grouped n ++ codes ")"
 
--- a word is a requirement, whose + is not kept, and with it no operator
+-- a word is a requirement, whose + is dropped, and which is no operator with one
 words : (reading_in (codes "MIT") ≡ one (licence (codes "MIT") ∷ []))
     × (reading_in (codes "AND+") ≡ one (licence (codes "AND") ∷ []))
     × (reading_in (codes "or") ≡ one (licence (codes "or") ∷ []))
@@ -45,7 +45,7 @@ unfolding reading_in byte_taken word_ended plus_ended mark_taken is_blank is_wor
     open_step and_step or_step close_step settled whole
 words = (refl, refl, refl, refl)
 
--- AND binds closer than OR, which is / as well; equal requirements are repeated
+-- AND binds closer than OR, which / is too; equal requirements are repeated
 operators : (reading_in (codes "MIT OR Apache-2.0")
     ≡ read (licence (codes "MIT") ∷ licence (codes "Apache-2.0") ∷ []) (any (0 ∷ 1 ∷ [])))
     × (reading_in (codes "A/B") ≡ read (a ∷ b ∷ []) (any (0 ∷ 1 ∷ [])))
@@ -67,7 +67,7 @@ unfolding reading_in byte_taken word_ended plus_ended mark_taken is_blank is_wor
     open_step and_step or_step close_step settled whole grouped
 groups = (refl, refl, refl, refl)
 
--- a byte that begins no token: another +, a line end, what is in no word
+-- a byte that begins no token: a second +, a line end, or one that is in no word
 bad_bytes : (reading_in (codes "A++") ≡ BadAt 2)
     × (reading_in (codes "A +") ≡ BadAt 2)
     × (reading_in (codes "MIT\n") ≡ BadAt 3)
@@ -76,7 +76,7 @@ unfolding reading_in byte_taken word_ended plus_ended mark_taken is_blank is_wor
     open_step and_step or_step close_step settled whole
 bad_bytes = (refl, refl, refl, refl)
 
--- a word or an operator that can't stand there, whatever follows it
+-- a word or an operator in the wrong place, whatever follows it
 bad_words : (reading_in (codes "A+B") ≡ BadAt 2)
     × (reading_in (codes "MIT and ISC") ≡ BadAt 4)
     × (reading_in (codes "A B_") ≡ BadAt 2)
@@ -88,7 +88,7 @@ unfolding reading_in byte_taken word_ended plus_ended mark_taken is_blank is_wor
     open_step and_step or_step close_step settled whole
 bad_words = (refl, refl, refl, refl, refl, refl, refl)
 
--- a parenthesis that can't stand there
+-- a parenthesis in the wrong place
 bad_parentheses : (reading_in (codes "MIT)") ≡ BadAt 3)
     × (reading_in (codes "MIT (ISC)") ≡ BadAt 4)
     × (reading_in (codes "()") ≡ BadAt 1)
@@ -96,7 +96,7 @@ unfolding reading_in byte_taken word_ended plus_ended mark_taken is_blank is_wor
     open_step and_step or_step close_step settled whole
 bad_parentheses = (refl, refl, refl)
 
--- the end of the text, which stands behind its last blank
+-- the end of the text, after its last blank
 bad_ends : (reading_in (codes "MIT AND ") ≡ BadAt 8)
     × (reading_in (codes "MIT WITH") ≡ BadAt 8)
     × (reading_in (codes "(MIT") ≡ BadAt 4)

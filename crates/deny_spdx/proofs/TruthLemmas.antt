@@ -1,7 +1,7 @@
 -- The truth of a tree, by its cases.
 use Rattle.std.proofs.Common.{◌≡◌, ℕ, Bool, false, List, [], ◌∷◌, refl, ap, ◌∙◌, sym, map, unwrap_or, slice_get, ◌||◌}
 use Rattle.std.specs.List.{list_any, list_all}
-use Rattle.deny_lists.proofs.Filters.{list_all-map}
+use Rattle.deny_base_lists.proofs.Filters.{list_all-map}
 use Rattle.deny_spdx.specs.declared.expression.Tree.{Tree, fold-roll-Tree}
 use Rattle.deny_spdx.specs.declared.expression.Tree.TheVariants.{Requirement, All, Any, rolls-Requirement, rolls-All}
 use Rattle.deny_spdx.specs.declared.expression.Tree.TheVariants.{rolls-Any}

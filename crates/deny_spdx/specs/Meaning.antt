@@ -1,15 +1,15 @@
--- What the text of one requirement means, as a function of the text.
+-- The meaning of the text of one requirement, as a function of the text.
 use Rattle.std.specs.Prelude.{◌==◌, ◌&&◌, ℕ, Bool, not, if◌then◌else◌, List, [], ◌∷◌, length, map, filter, nat_lt}
 use Rattle.std.specs.Prelude.{Option, Some, None, ◌≡◌, Result, Ok, Err}
 use Rattle.std.specs.List.{list_all, slice_split}
-use Rattle.deny_spdx.specs.declared.token.Token.{Token}
-use Rattle.deny_spdx.specs.declared.token.Token.TheVariants.{Word, With}
+use Rattle.deny_spdx.specs.declared.token.SpdxToken.{SpdxToken}
+use Rattle.deny_spdx.specs.declared.token.SpdxToken.TheVariants.{Word, With}
 use Rattle.deny_spdx.specs.declared.requirement.Requirement.{Requirement}
 use Rattle.deny_spdx.specs.declared.error.SpdxError.{SpdxError}
 use Rattle.deny_spdx.specs.declared.error.SpdxError.TheVariants.{Bad, Memory}
 use Rattle.deny_spdx.specs.Tokens.{is_blank, is_word_byte, token_of}
 
--- a blank behind each '+', which ends a word
+-- a text with a blank after each '+', which ends a word
 abbrev pub spaced : List ℕ → List ℕ
 spaced [] = []
 spaced (b ∷ bs) = if b == 43 then 43 ∷ 32 ∷ spaced bs else b ∷ spaced bs
@@ -27,14 +27,14 @@ without_plus [] = []
 without_plus (b ∷ []) = if b == 43 then [] else b ∷ []
 without_plus (b ∷ c ∷ bs) = b ∷ without_plus (c ∷ bs)
 
--- the token that a part is; with '+' it is a word, whatever stands before that
-abbrev pub part_token : List ℕ → Option Token
+-- the token that a part is; with '+' it is a word, whatever precedes it
+abbrev pub part_token : List ℕ → Option SpdxToken
 part_token part =
     if is_word part then Some (token_of part)
     else (if is_word (without_plus part) then Some (Word (without_plus part)) else None)
 
 -- a word, or word WITH word
-abbrev pub requirement_of : List (Option Token) → Option Requirement
+abbrev pub requirement_of : List (Option SpdxToken) → Option Requirement
 requirement_of (Some (Word id) ∷ []) = Some (record { id = id; exception = None })
 requirement_of (Some (Word id) ∷ Some With ∷ Some (Word exception) ∷ []) =
     Some (record { id = id; exception = Some exception })
@@ -44,7 +44,7 @@ requirement_of _ = None
 unfoldable pub requirement_in : List ℕ → Option Requirement
 requirement_in text = requirement_of (map part_token (parts_of text))
 
--- what is read is what the text means, and it is bad where that is nothing
+-- the result is the meaning of the text, and bad where it has none
 abbrev pub IsMeaning : List ℕ → Result Requirement SpdxError → Type 0
 IsMeaning text (Ok r) = requirement_in text ≡ Some r
 IsMeaning text (Err (Bad offset)) = requirement_in text ≡ None

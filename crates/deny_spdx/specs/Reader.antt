@@ -1,32 +1,32 @@
--- What each token makes of a reader.
+-- The reader after each token.
 use Rattle.std.specs.Prelude.{ℕ, nat_lt, if◌then◌else◌, List, [], ◌∷◌, ◌++◌, length, Option, Some, None}
-use Rattle.deny_spdx.specs.declared.token.Token.{Token}
-use Rattle.deny_spdx.specs.declared.token.Token.TheVariants.{Word, And, Or, With, Open, Close}
+use Rattle.deny_spdx.specs.declared.token.SpdxToken.{SpdxToken}
+use Rattle.deny_spdx.specs.declared.token.SpdxToken.TheVariants.{Word, And, Or, With, Open, Close}
 use Rattle.deny_spdx.specs.declared.requirement.Requirement.{Requirement}
 use Rattle.deny_spdx.specs.declared.expression.Expression.{Expression}
 use Rattle.deny_spdx.specs.declared.expression.Tree.{Tree}
 use Rattle.deny_spdx.specs.declared.expression.Tree.TheVariants as tree
 use Rattle.deny_spdx.specs.Grammar.{all_of, any_of}
-use Rattle.deny_spdx.specs.declared.level.Level.{Level}
+use Rattle.deny_spdx.specs.declared.level.ParenLevel.{ParenLevel}
 use Rattle.deny_spdx.specs.declared.reader.Phase.{Phase}
 use Rattle.deny_spdx.specs.declared.reader.Phase.TheVariants.{Operand, Named, Excepted, Operator}
 use Rattle.deny_spdx.specs.declared.reader.Reader.{Reader}
 
-abbrev pub empty_level : Level
+abbrev pub empty_level : ParenLevel
 empty_level = record { alternatives = []; parts = [] }
 
--- before any token
+-- the reader before the first token
 abbrev pub start : Reader
 start = record { requirements = []; outer = []; level = empty_level; phase = Operand }
 
-abbrev pub with_part : Level → Tree → Level
+abbrev pub with_part : ParenLevel → Tree → ParenLevel
 with_part l t = record { alternatives = l.alternatives; parts = l.parts ++ t ∷ [] }
 
 -- the alternatives with the last one
-abbrev pub all_alternatives : Level → List Tree
+abbrev pub all_alternatives : ParenLevel → List Tree
 all_alternatives l = l.alternatives ++ all_of l.parts ∷ []
 
--- a whole requirement has come
+-- the reader with one more whole requirement
 abbrev pub with_requirement : Reader → Requirement → Reader
 with_requirement s r = record {
   requirements = s.requirements ++ r ∷ [];
@@ -36,7 +36,7 @@ with_requirement s r = record {
   phase = Operator;
 }
 
--- a word that stands last is a whole requirement
+-- a word at the end is a whole requirement
 abbrev pub settled_at : Phase → Reader → Reader
 settled_at Operand s = s
 settled_at (Named id) s = with_requirement s (record { id = id; exception = None })
@@ -84,7 +84,7 @@ open_step_at Operator s = None
 unfoldable pub open_step : Reader → Option Reader
 open_step s = open_step_at s.phase s
 
--- what a token makes of a reader that stands behind a whole requirement or parenthesis
+-- the reader after an operator, which may come only after a whole requirement or parenthesis
 abbrev pub if_operator : Phase → Option Reader → Option Reader
 if_operator Operand after = None
 if_operator (Named id) after = None
@@ -115,7 +115,7 @@ abbrev pub split_last : {A : Type 0} → List A → Option (List A × A)
 split_last [] = None
 split_last (x ∷ xs) = with_first x (split_last xs)
 
-abbrev pub closed_to : Reader → List Level × Level → Reader
+abbrev pub closed_to : Reader → List ParenLevel × ParenLevel → Reader
 closed_to s found = record {
   requirements = s.requirements;
   outer = found.0;
@@ -123,15 +123,15 @@ closed_to s found = record {
   phase = Operator;
 }
 
-abbrev pub closed : Reader → Option (List Level × Level) → Option Reader
+abbrev pub closed : Reader → Option (List ParenLevel × ParenLevel) → Option Reader
 closed s None = None
 closed s (Some found) = Some (closed_to s found)
 
 unfoldable pub close_step : Reader → Option Reader
 close_step s = if_operator s.phase (closed s (split_last s.outer))
 
--- the reader behind the token, or none where the token can't stand there
-unfoldable pub step : Reader → Token → Option Reader
+-- the reader after the token, or none where the token may not come
+unfoldable pub step : Reader → SpdxToken → Option Reader
 step s (Word word) = word_step s word
 step s And = and_step (settled s)
 step s Or = or_step (settled s)
@@ -142,7 +142,7 @@ step s Close = close_step (settled s)
 abbrev pub expression_of : Reader → Expression
 expression_of s = record { requirements = s.requirements; tree = any_of (all_alternatives s.level) }
 
-abbrev pub if_closed : List Level → Reader → Option Expression
+abbrev pub if_closed : List ParenLevel → Reader → Option Expression
 if_closed [] s = Some (expression_of s)
 if_closed (l ∷ ls) s = None
 

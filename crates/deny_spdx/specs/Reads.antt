@@ -1,7 +1,7 @@
--- What a text is read as, as a function of the text: the tokens as they come, each taken by a reader.
+-- The reading of a text, as a function of the text: each token is taken by a reader.
 use Rattle.std.specs.Prelude.{◌≡◌, ◌==◌, ◌+◌, ◌-◌, ℕ, if◌then◌else◌, List, [], ◌∷◌, ◌++◌, length, Option, Some, None}
 use Rattle.std.specs.Prelude.{Result, Ok, Err}
-use Rattle.deny_spdx.specs.declared.token.Token.TheVariants.{Word, Or, Open, Close}
+use Rattle.deny_spdx.specs.declared.token.SpdxToken.TheVariants.{Word, Or, Open, Close}
 use Rattle.deny_spdx.specs.declared.error.SpdxError.{SpdxError}
 use Rattle.deny_spdx.specs.declared.error.SpdxError.TheVariants as error
 use Rattle.deny_spdx.specs.declared.expression.Expression.{Expression}
@@ -9,22 +9,22 @@ use Rattle.deny_spdx.specs.declared.reader.Reader.{Reader}
 use Rattle.deny_spdx.specs.Reader.{settled, start, step, whole}
 use Rattle.deny_spdx.specs.Tokens.{is_blank, is_word_byte, token_of}
 
--- an expression, or nothing, from the byte at an offset on
+-- the reading of a text: an expression, or none, since it is bad at an offset
 pub data Reading : Type 0 where
   Read : Expression → Reading
   BadAt : ℕ → Reading
 
--- the reader behind the tokens that have come, with the bytes of a word that may go on; or the offset of what is bad
+-- the reader after the tokens so far, with the bytes of a word that may continue; or the offset where the text is bad
 pub data Progress : Type 0 where
   On : Reader → List ℕ → Progress
   Bad : ℕ → Progress
 
--- the reader behind a token, which begins at an offset
+-- the reader after a token, which begins at an offset
 abbrev pub taken : Option Reader → ℕ → Progress
 taken None at = Bad at
 taken (Some reader) at = On reader []
 
--- what comes next, behind a word that has ended
+-- the progress after a word that has ended
 abbrev pub and_on : (Reader → Progress) → Progress → Progress
 and_on next (On reader word) = next reader
 and_on next (Bad at) = Bad at
@@ -34,7 +34,7 @@ unfoldable pub word_ended : Reader → List ℕ → ℕ → Progress
 word_ended reader word end =
     if length word == 0 then On reader [] else taken (step reader (token_of word)) (end - length word)
 
--- the same before a '+', with which a word is no operator
+-- the word that ends before a '+', with which it is no operator
 unfoldable pub plus_ended : Reader → List ℕ → ℕ → Progress
 plus_ended reader word end =
     if length word == 0 then Bad end else taken (step reader (Word word)) (end - length word)
@@ -71,11 +71,11 @@ read_from reader word at [] = at_end at (word_ended reader word at)
 read_from reader word at (byte ∷ bytes) =
     then_read (λ behind more. read_from behind more (at + 1) bytes) (byte_taken reader word at byte)
 
--- what the text is read as
+-- the reading of the text
 unfoldable pub reading_in : List ℕ → Reading
 reading_in text = read_from start [] 0 text
 
--- what is parsed is what the text is read as
+-- the result of parsing is the reading of the text
 abbrev pub IsReading : List ℕ → Result Expression SpdxError → Type 0
 IsReading text (Ok e) = reading_in text ≡ Read e
 IsReading text (Err (error.Bad offset)) = reading_in text ≡ BadAt offset

@@ -1,15 +1,15 @@
-use deny_lists::NoMemory;
+use deny_base_lists::NoMemory;
 use thiserror::Error;
 
 /// Why a text is not read.
 #[derive(Debug, Clone, Copy, Error)]
 pub enum SpdxError {
-    /// The text is not of the grammar. The offset is that of the first byte that begins no token, or
-    /// of the first token that can't stand there. The end of the text counts as a token at the text's
-    /// length.
+    /// The text is outside the grammar. The offset is that of the first byte that begins no token,
+    /// or of the first token that may not come there. The end of the text counts as a token at the
+    /// text's length.
     #[error("the licence expression goes wrong at byte {0}")]
     Bad(usize),
-    /// An allocation failed.
+    /// Memory ran out.
     #[error("out of memory")]
     Memory,
 }

@@ -3,21 +3,21 @@ ghost use Rattle.std.specs.Prelude.{unwrap_or, IfOk, MatchResult, Ok, Err};
 ghost use Rattle.std.specs.List.{list_any, list_all};
 ghost use Rattle.deny_spdx.specs.Truth.{truth};
 ghost use Rattle.deny_spdx.specs.Grammar.{IsExpression, all_of, any_of};
-ghost use Rattle.deny_lists.specs.Reader.{Answers};
+ghost use Rattle.deny_base_lists.specs.Reader.{Answers};
 ghost use Rattle.deny_spdx.specs.Bad.{Spells, IsBadAt};
 ghost use Rattle.deny_spdx.specs.Reads.{IsReading};
 
 use crate::error::SpdxError;
 use crate::parse::read_expression;
 use crate::requirement::Requirement;
-use deny_lists::List;
+use deny_base_lists::List;
 use std::alloc::Global;
 
-/// How an expression is put together. The requirements stand in it by their numbers, which count
-/// from 0 in text order.
+/// The tree of an expression. Requirements are given by their numbers, which count from 0 in text
+/// order.
 #[derive(Drop)]
 pub enum Tree {
-    /// The requirement of this number holds.
+    /// The requirement with this number holds.
     Requirement(usize),
     /// Each of the parts holds.
     All(List<Tree>),
@@ -34,7 +34,7 @@ pub struct Expression {
 
 impl Expression {
     /// The expression that the text spells. `Bad` comes exactly where it spells none, at the offset
-    /// where it goes wrong first, and `Memory` where an allocation fails.
+    /// where it goes wrong first, and `Memory` where memory runs out.
     pub fn parse(alloc: Global, text: &str) -> Result<Expression, SpdxError>
         ensures read { IfOk result (Spells IsExpression text.now) }
         ensures spelled { (e : Expression) → Spells IsExpression text.now e → Answers SpdxError.Memory (Ok e) result }
@@ -54,7 +54,8 @@ impl Expression {
         self.requirements.as_slice()
     }
 
-    /// Whether the expression holds, where the requirement of each number holds as `allowed` says.
+    /// Whether the expression holds, where the requirement with each number holds as `allowed`
+    /// says.
     pub fn evaluate(&self, allowed: &[bool]) -> bool
         requires { length allowed.now ≡ length self.now.requirements }
         ensures { result ≡ truth allowed.now self.now.tree }
@@ -63,7 +64,7 @@ impl Expression {
     }
 }
 
-/// The tree of these parts, each of which has to hold. A part that stands alone is the tree.
+/// The tree of these parts, all of which must hold. A single part is the tree itself.
 pub(crate) fn all_of(parts: List<Tree>) -> Tree
     ensures { result ≡ all_of parts }
 {
@@ -73,7 +74,7 @@ pub(crate) fn all_of(parts: List<Tree>) -> Tree
     }
 }
 
-/// The tree of these parts, one of which has to hold. A part that stands alone is the tree.
+/// The tree of these parts, one of which must hold. A single part is the tree itself.
 pub(crate) fn any_of(parts: List<Tree>) -> Tree
     ensures { result ≡ any_of parts }
 {
@@ -83,7 +84,7 @@ pub(crate) fn any_of(parts: List<Tree>) -> Tree
     }
 }
 
-/// The one part, or the parts as they are where there is not just one.
+/// The only part, or the parts unchanged where there is not exactly one.
 fn alone(parts: List<Tree>) -> Result<Tree, List<Tree>>
     ensures { MatchResult result (λ part. parts ≡ part ∷ []) (λ others. (others ≡ parts) × (length parts ≢ 1)) }
 {
@@ -135,7 +136,7 @@ fn any_holds(parts: &[Tree], allowed: &[bool]) -> bool
     false
 }
 
-/// The value of this number, and false past the end.
+/// The value with this number, and false past the end.
 fn value_of(values: &[bool], number: usize) -> bool
     ensures { result ≡ unwrap_or (slice_get values.now number) false }
 {

@@ -2,38 +2,38 @@ ghost use Rattle.std.specs.Prelude.{◌≡◌, IfOk};
 ghost use Rattle.deny_spdx.specs.Reader.{empty_level, with_part, all_alternatives};
 
 use crate::expression::{Tree, all_of};
-use deny_lists::{List, NoMemory};
+use deny_base_lists::{List, NoMemory};
 use std::alloc::Global;
 
-/// What stands between a parenthesis that is open, or the begin of the text, and the offset that is
-/// read: the alternatives that are whole, and the parts of the one that is not.
+/// The tokens between an open parenthesis, or the start of the text, and the offset that is read:
+/// the alternatives that are whole, and the parts of the one that is not.
 #[derive(Drop)]
-pub struct Level {
+pub struct ParenLevel {
     pub alternatives: List<Tree>,
     pub parts: List<Tree>,
 }
 
-impl Level {
-    /// A level in which nothing stands.
-    pub fn new(alloc: Global) -> Level
+impl ParenLevel {
+    /// An empty level.
+    pub fn new(alloc: Global) -> ParenLevel
         ensures { result ≡ empty_level }
     {
-        Level {
+        ParenLevel {
             alternatives: List::new(alloc),
             parts: List::new(alloc),
         }
     }
 
     /// The level with one more part.
-    pub fn with_part(self, part: Tree) -> Result<Level, NoMemory>
+    pub fn with_part(self, part: Tree) -> Result<ParenLevel, NoMemory>
         ensures { IfOk result (λ after. after ≡ with_part self part) }
     {
-        let Level {
+        let ParenLevel {
             alternatives,
             mut parts,
         } = self;
         parts.push(part)?;
-        Ok(Level {
+        Ok(ParenLevel {
             alternatives,
             parts,
         })
@@ -43,7 +43,7 @@ impl Level {
     pub fn into_alternatives(self) -> Result<List<Tree>, NoMemory>
         ensures { IfOk result (λ all. all ≡ all_alternatives self) }
     {
-        let Level {
+        let ParenLevel {
             mut alternatives,
             parts,
         } = self;

@@ -3,35 +3,35 @@ ghost use Rattle.deny_spdx.specs.Reader.{start, settled, with_requirement, word_
 ghost use Rattle.deny_spdx.specs.Reader.{open_step, and_step, or_step, close_step, step, whole};
 
 use crate::expression::{Expression, Tree, any_of};
-use crate::level::Level;
+use crate::level::ParenLevel;
 use crate::requirement::Requirement;
-use crate::token::Token;
+use crate::token::SpdxToken;
 use crate::token_reader::TokenReader;
-use deny_lists::{List, NoMemory, Text};
+use deny_base_lists::{List, NoMemory, Text};
 use std::alloc::Global;
 
-/// How many parentheses may be open at an offset.
+/// The largest number of parentheses that may be open at an offset.
 const NESTING: usize = 64;
 
-/// What the tokens so far end with.
+/// The end of the tokens so far.
 #[derive(Drop)]
 pub enum Phase {
-    /// An operator or an open parenthesis, or there are no tokens: a requirement or `(` must come.
+    /// An operator, an open parenthesis or no token: a requirement or `(` must come.
     Operand,
-    /// A word: `WITH` may come as well as what may follow a requirement.
+    /// A word: `WITH` may come, or any token that may follow a requirement.
     Named(Text),
-    /// `WITH` behind this word: an exception must come.
+    /// `WITH` after this word: an exception must come.
     Excepted(Text),
     /// A requirement with its exception, or a closed parenthesis.
     Operator,
 }
 
-/// A reader of an expression's tokens, behind some of them.
+/// A reader of the tokens of an expression, after some of them.
 #[derive(Drop)]
 pub struct Reader {
     pub requirements: List<Requirement>,
-    pub outer: List<Level>,
-    pub level: Level,
+    pub outer: List<ParenLevel>,
+    pub level: ParenLevel,
     pub phase: Phase,
 }
 
@@ -43,12 +43,12 @@ impl Reader {
         Reader {
             requirements: List::new(alloc),
             outer: List::new(alloc),
-            level: Level::new(alloc),
+            level: ParenLevel::new(alloc),
             phase: Phase::Operand,
         }
     }
 
-    /// The expression that the tokens are, or none where they are not a whole one.
+    /// The expression of the tokens, or none where they are not a whole one.
     pub fn whole(self) -> Result<Option<Expression>, NoMemory>
         ensures { IfOk result (λ found. found ≡ whole (settled self)) }
     {
@@ -74,7 +74,7 @@ impl Reader {
         }
     }
 
-    /// The reader with one more requirement, which is whole.
+    /// The reader with one more whole requirement.
     fn with_requirement(self, requirement: Requirement) -> Result<Reader, NoMemory>
         ensures { IfOk result (λ after. after ≡ with_requirement self requirement) }
     {
@@ -95,7 +95,7 @@ impl Reader {
         })
     }
 
-    /// The reader for which a word at the end is a whole requirement.
+    /// The reader with a word at the end taken as a whole requirement.
     #[tactic(auto, unfolding(crate::specs::Reader::settled))]
     fn settled(self) -> Result<Reader, NoMemory>
         ensures { IfOk result (λ after. after ≡ settled self) }
@@ -200,7 +200,7 @@ impl Reader {
                 Ok(Some(Reader {
                     requirements,
                     outer,
-                    level: Level::new(alloc),
+                    level: ParenLevel::new(alloc),
                     phase: Phase::Operand,
                 }))
             },
@@ -243,7 +243,7 @@ impl Reader {
             Phase::Operator => Ok(Some(Reader {
                 requirements,
                 outer,
-                level: Level {
+                level: ParenLevel {
                     alternatives: level.into_alternatives()?,
                     parts: List::new(alloc),
                 },
@@ -283,14 +283,14 @@ impl TokenReader for Reader {
     ghost step = { step };
 
     #[tactic(auto, unfolding(crate::specs::Reader::step))]
-    fn take(self, alloc: Global, token: Token) -> Result<Option<Reader>, NoMemory> {
+    fn take(self, alloc: Global, token: SpdxToken) -> Result<Option<Reader>, NoMemory> {
         match token {
-            Token::Word(word) => self.take_word(word),
-            Token::And => Ok(self.settled()?.take_and()),
-            Token::Or => self.settled()?.take_or(alloc),
-            Token::With => Ok(self.take_with()),
-            Token::Open => self.take_open(alloc),
-            Token::Close => self.settled()?.take_close(),
+            SpdxToken::Word(word) => self.take_word(word),
+            SpdxToken::And => Ok(self.settled()?.take_and()),
+            SpdxToken::Or => self.settled()?.take_or(alloc),
+            SpdxToken::With => Ok(self.take_with()),
+            SpdxToken::Open => self.take_open(alloc),
+            SpdxToken::Close => self.settled()?.take_close(),
         }
     }
 }

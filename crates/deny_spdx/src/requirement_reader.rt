@@ -2,15 +2,15 @@ ghost use Rattle.std.specs.Prelude.{◌≡◌};
 ghost use Rattle.deny_spdx.specs.private.RequirementReader.{requirement_step, whole_requirement};
 
 use crate::requirement::Requirement;
-use crate::token::Token;
+use crate::token::SpdxToken;
 use crate::token_reader::TokenReader;
-use deny_lists::{NoMemory, Text};
+use deny_base_lists::{NoMemory, Text};
 use std::alloc::Global;
 
-/// A reader of one requirement's tokens, behind some of them.
+/// A reader of the tokens of one requirement, after some of them.
 #[derive(Drop)]
 pub enum RequirementReader {
-    /// Nothing has come.
+    /// No token.
     Start,
     /// A word.
     Named(Text),
@@ -21,7 +21,7 @@ pub enum RequirementReader {
 }
 
 impl RequirementReader {
-    /// The requirement that the tokens are, or none where they are not a whole one.
+    /// The requirement of the tokens, or none where they are not a whole one.
     pub fn whole(self) -> Option<Requirement>
         ensures { result ≡ whole_requirement self }
     {
@@ -39,13 +39,15 @@ impl RequirementReader {
 impl TokenReader for RequirementReader {
     ghost step = { requirement_step };
 
-    fn take(self, _alloc: Global, token: Token) -> Result<Option<RequirementReader>, NoMemory> {
+    fn take(self, _alloc: Global, token: SpdxToken) -> Result<Option<RequirementReader>, NoMemory> {
         match (self, token) {
-            (RequirementReader::Start, Token::Word(id)) => Ok(Some(RequirementReader::Named(id))),
-            (RequirementReader::Named(id), Token::With) => Ok(Some(RequirementReader::Excepted(
+            (RequirementReader::Start, SpdxToken::Word(id)) => Ok(Some(RequirementReader::Named(
                 id,
             ))),
-            (RequirementReader::Excepted(id), Token::Word(exception)) => Ok(Some(
+            (RequirementReader::Named(id), SpdxToken::With) => Ok(Some(RequirementReader::Excepted(
+                id,
+            ))),
+            (RequirementReader::Excepted(id), SpdxToken::Word(exception)) => Ok(Some(
                 RequirementReader::Whole(Requirement {
                     id,
                     exception: Some(exception),

@@ -3,12 +3,12 @@ ghost use Rattle.std.specs.List.{prefix_len};
 ghost use Rattle.deny_spdx.specs.Tokens.{is_blank, is_word_byte, token_of};
 ghost use Rattle.deny_spdx.specs.private.Prefix.{HasPrefix, is_plus, mark_of};
 
-use deny_lists::{NoMemory, Text};
+use deny_base_lists::{NoMemory, Text};
 use std::alloc::Global;
 
 /// A token of a licence expression.
 #[derive(Drop)]
-pub enum Token {
+pub enum SpdxToken {
     /// A word that is no operator, without the `+` that may end it.
     Word(Text),
     /// `AND`
@@ -23,18 +23,18 @@ pub enum Token {
     Close,
 }
 
-/// What a text begins with.
+/// The start of a text.
 #[derive(Drop)]
 pub enum Prefix {
-    /// Nothing: the text is empty.
+    /// The text is empty.
     End,
     /// A byte that begins no token.
     NoToken,
-    /// A token, which has so many bytes.
-    Token(Token, usize),
+    /// A token of this many bytes.
+    Token(SpdxToken, usize),
 }
 
-/// What the text begins with.
+/// The token at the start of the text, if there is one.
 pub fn read_prefix(alloc: Global, text: &str) -> Result<Prefix, NoMemory>
     ensures { IfOk result (HasPrefix text.now) }
 {
@@ -45,7 +45,7 @@ pub fn read_prefix(alloc: Global, text: &str) -> Result<Prefix, NoMemory>
     }
 }
 
-/// The word at the begin of the text.
+/// The word at the start of the text.
 fn word(alloc: Global, text: &str) -> Result<Prefix, NoMemory>
     requires { 0 < prefix_len is_word_byte text.now }
     ensures { IfOk result (HasPrefix text.now) }
@@ -54,49 +54,49 @@ fn word(alloc: Global, text: &str) -> Result<Prefix, NoMemory>
     let (word, after) = split(text, length);
     if has_plus(after) {
         let id = Text::from_str(alloc, word)?;
-        Ok(Prefix::Token(Token::Word(id), length + 1))
+        Ok(Prefix::Token(SpdxToken::Word(id), length + 1))
     } else {
         Ok(Prefix::Token(token_of(alloc, word)?, length))
     }
 }
 
-/// What a text begins with whose first byte is in no word.
+/// The start of a text whose first byte is in no word.
 #[tactic(auto, unfolding(crate::specs::private::Prefix::mark_of))]
 fn mark(byte: u8) -> Prefix
     ensures { result ≡ mark_of byte }
 {
     match byte {
-        b'(' => Prefix::Token(Token::Open, 1),
-        b')' => Prefix::Token(Token::Close, 1),
-        b'/' => Prefix::Token(Token::Or, 1),
+        b'(' => Prefix::Token(SpdxToken::Open, 1),
+        b')' => Prefix::Token(SpdxToken::Close, 1),
+        b'/' => Prefix::Token(SpdxToken::Or, 1),
         _ => Prefix::NoToken,
     }
 }
 
 /// The token of a word without `+`.
 #[tactic(auto, unfolding(crate::specs::Tokens::token_of))]
-fn token_of(alloc: Global, word: &str) -> Result<Token, NoMemory>
+fn token_of(alloc: Global, word: &str) -> Result<SpdxToken, NoMemory>
     ensures { IfOk result (λ token. token ≡ token_of word.now) }
 {
     if word == "AND" {
-        Ok(Token::And)
+        Ok(SpdxToken::And)
     } else if word == "OR" {
-        Ok(Token::Or)
+        Ok(SpdxToken::Or)
     } else if word == "WITH" {
-        Ok(Token::With)
+        Ok(SpdxToken::With)
     } else {
-        Ok(Token::Word(Text::from_str(alloc, word)?))
+        Ok(SpdxToken::Word(Text::from_str(alloc, word)?))
     }
 }
 
-/// The text without the blanks at its begin.
+/// The text without the blanks at its start.
 pub fn skip_blanks(text: &str) -> &str
     ensures { result.now ≡ drop (prefix_len is_blank text.now) text.now }
 {
     split(text, blank_length(text.as_bytes())).1
 }
 
-/// The parts of a text before and after so many bytes, which are ASCII.
+/// The text before and after this many bytes, which are ASCII.
 pub fn split(text: &str, count: usize) -> (&str, &str)
     requires within { count ≤ length text.now }
     requires ascii { (k : ℕ) → k < count → slice_index text.now k < 128 }
@@ -120,14 +120,14 @@ fn has_plus(text: &str) -> bool
     matches!(first_byte(text), Some(b'+'))
 }
 
-/// How many bytes of a word there are at the begin.
+/// The number of bytes of a word at the start.
 fn word_length(bytes: &[u8]) -> usize
     ensures { result ≡ prefix_len is_word_byte bytes.now }
 {
     bytes.iter().take_while(|byte| is_word_byte(**byte)).count()
 }
 
-/// How many blanks there are at the begin.
+/// The number of blanks at the start.
 fn blank_length(bytes: &[u8]) -> usize
     ensures { result ≡ prefix_len is_blank bytes.now }
 {

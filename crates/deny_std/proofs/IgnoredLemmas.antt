@@ -1,4 +1,4 @@
--- The first entry that speaks of a crate is found among those of its name.
+-- The first entry that matches a crate is found among the entries of the crate's name.
 use Rattle.std.proofs.Common.{◌≡◌, ℕ, Bool, true, List, Contains, Option, Some, None, find, map, refl, sym, ap, ◌∙◌}
 use Rattle.std.proofs.Common.{subst}
 use Rattle.std.specs.Prelude.{◌↔◌, option_and_then, option_map, slice_get}
@@ -10,16 +10,16 @@ use Rattle.deny_cfg.specs.PackageSpecOrExtended.{PackageSpecOrExtended}
 use Rattle.deny_cfg.specs.PolicyView.{entry_view}
 use Rattle.deny_cfg.specs.Reason.{Reason}
 use Rattle.deny_cfg.specs.SpecView.{spec_view}
-use Rattle.deny_codes.specs.FirstMatch.{first_of}
-use Rattle.deny_codes.specs.StdReplacements.{ignore_range, ignores}
+use Rattle.deny_spec_report.specs.FirstMatch.{first_of}
+use Rattle.deny_spec_report.specs.StdReplacements.{ignore_span, ignores}
 use Rattle.deny_krates.specs.Crates.{crate_view}
 use Rattle.deny_krates.specs.krate.Krate.{Krate}
-use Rattle.deny_model.specs.Match.{matches, speaks_of}
-use Rattle.deny_model.specs.Policy.{Entry}
-use Rattle.deny_model.specs.Text.{same_text}
-use Rattle.deny_lists.proofs.Filters.{find-map}
-use Rattle.deny_std.specs.private.Ignored.{entry_name, entry_range, speaks_at}
-use Rattle.deny_lists.proofs.Finding.{first-numbered}
+use Rattle.deny_spec.specs.Match.{matches, spec_matches}
+use Rattle.deny_spec.specs.Policy.{Entry}
+use Rattle.deny_spec.specs.Text.{same_text}
+use Rattle.deny_base_lists.proofs.Filters.{find-map}
+use Rattle.deny_std.specs.private.Ignored.{entry_name, entry_span, matches_at}
+use Rattle.deny_base_lists.proofs.Finding.{first-numbered}
 
 found-of : {A B : Type 0} (f : A → B) (get : ℕ → Option A) (o : Option ℕ)
     → option_and_then (λ n. option_map f (get n)) o ≡ option_map f (option_and_then get o)
@@ -31,25 +31,25 @@ viewed-of : {A B C : Type 0} (f : B → C) (v : A → B) (o : Option A)
 viewed-of f v None = refl
 viewed-of f v (Some x) = refl
 
-abbrev speaks : Krate → PackageSpecOrExtended Reason → Bool
-speaks k e = speaks_of (spec_view e.spec) k.name (parts_of k.version)
+abbrev does_match : Krate → PackageSpecOrExtended Reason → Bool
+does_match k e = spec_matches (spec_view e.spec) k.name (parts_of k.version)
 
-named : (k : Krate) (e : PackageSpecOrExtended Reason) → speaks k e ≡ true → entry_name e ≡ k.name
+named : (k : Krate) (e : PackageSpecOrExtended Reason) → does_match k e ≡ true → entry_name e ≡ k.name
 named k e is = (bytes_eq-Decides e.spec.name.value k.name).0 (and_parts (same_text e.spec.name.value k.name) _ is).0
 
-pub range-found : (entries : List (PackageSpecOrExtended Reason)) (k : Krate) (numbers : List ℕ) (names : List (List ℕ))
+pub span-found : (entries : List (PackageSpecOrExtended Reason)) (k : Krate) (numbers : List ℕ) (names : List (List ℕ))
     (place : ℕ) → names ≡ map entry_name entries → IsStrictlyIncreasing numbers
     → ((i : ℕ) → Contains numbers i ↔ (slice_get names i ≡ Some k.name))
-    → option_and_then (entry_range entries) (find (speaks_at entries k) numbers)
-    ≡ option_map ignore_range (first_of ignores (map entry_view entries) (crate_view place k))
+    → option_and_then (entry_span entries) (find (matches_at entries k) numbers)
+    ≡ option_map ignore_span (first_of ignores (map entry_view entries) (crate_view place k))
 unfolding matches
-range-found entries k numbers names place are up exact =
+span-found entries k numbers names place are up exact =
     found-of (λ (e : PackageSpecOrExtended Reason). e.spec.name.span) (slice_get entries)
-    (find (speaks_at entries k) numbers)
+    (find (matches_at entries k) numbers)
     ∙ (ap (option_map (λ (e : PackageSpecOrExtended Reason). e.spec.name.span))
-    (first-numbered (speaks k) entries entry_name k.name numbers up
+    (first-numbered (does_match k) entries entry_name k.name numbers up
     (subst (λ (ns : List (List ℕ)). (i : ℕ) → Contains numbers i ↔ (slice_get ns i ≡ Some k.name)) are exact)
     (named k))
-    ∙ (viewed-of ignore_range entry_view (find (speaks k) entries)
-    ∙ ap (option_map ignore_range) (sym (find-map (λ (e : Entry). matches e.spec (crate_view place k)) entry_view
+    ∙ (viewed-of ignore_span entry_view (find (does_match k) entries)
+    ∙ ap (option_map ignore_span) (sym (find-map (λ (e : Entry). matches e.spec (crate_view place k)) entry_view
     entries))))

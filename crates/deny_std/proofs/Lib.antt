@@ -3,6 +3,6 @@ pub mod IgnoredLemmas
 pub mod KeyLemmas
 pub mod NoteLemmas
 pub mod PlaceLemmas
+pub mod ReportingLemmas
 pub mod SaidLemmas
 pub mod StableLemmas
-pub mod TellingLemmas

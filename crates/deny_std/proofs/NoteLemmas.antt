@@ -1,4 +1,4 @@
--- The note of a replaced crate, item by item, is its definition.
+-- The note of a replaced crate, item by item, is that of the definition.
 use lib.Utf8.{encode, next}
 use Rattle.std.proofs.Common.{◌≡◌, ◌++◌, ◌+◌, ◌/◌, ◌≤◌, ℕ, Bool, true, false, inl, inr, List, [], ◌∷◌, cond, map, refl}
 use Rattle.std.proofs.Common.{sym, ap, ◌∙◌, append_assoc, arith}
@@ -14,9 +14,9 @@ use Rattle.deny_std_table.specs.Replacement.{EntryItems, ItemsLeft}
 use Rattle.deny_std_table.specs.Spelling.{ApiText, GroupText, ItemsText, ReplacementText, items_text}
 use Rattle.deny_std_table.specs.Texts as text
 use Rattle.deny_std_table.specs.Texts.{ItemText, group_texts, item_texts, texts_left}
-use Rattle.deny_codes.specs.Saying.{Stable, items_said, stable_of}
-use Rattle.deny_codes.specs.StdReplacements.{below_heading, code_name, line, remark, replacement_lines}
-use Rattle.deny_codes.specs.StdReplacements.{replacement_note, stable_lines, unavailable_line}
+use Rattle.deny_spec_report.specs.Saying.{Stable, items_said, stable_of}
+use Rattle.deny_spec_report.specs.StdReplacements.{below_heading, code_name, line, remark, replacement_lines}
+use Rattle.deny_spec_report.specs.StdReplacements.{replacement_note, stable_lines, unavailable_line}
 use Rattle.deny_std.specs.declared.note.Heading.{Heading}
 use Rattle.deny_std.specs.declared.note.Heading.TheVariants as heading
 use Rattle.deny_std.specs.private.Note.{code_letter, heading_of, item_lines, lines_below, link_line, new_heading}
@@ -24,7 +24,7 @@ use Rattle.deny_std.specs.private.Note.{replaced_lines, same_heading}
 use Rattle.deny_std.specs.private.Said.{said_of}
 use Rattle.deny_std.proofs.SaidLemmas.{entry-said}
 
--- items of a table, as they are handed out
+-- the items of a table as the iterator gives them
 stable_item : Stable → ItemText
 stable_item stable = text.Stable stable.replacement stable.minor
 
@@ -91,7 +91,7 @@ module _ (name : List ℕ) where
       regrouped (new_heading (heading.Version s.minor) (heading.Version last)) (replacement_lines name s.replacement)
       (stable_lines name s.minor stable) rest _ (stable-below s.minor stable items rest then)
 
-  pub note-lines : (items : ItemsText)
+  note-lines : (items : ItemsText)
       → line (codes "## Stable") ++ below (heading.Version 0) (item_texts items)
       ≡ replacement_note name (items_said items)
   unfolding replacement_note
@@ -102,7 +102,7 @@ module _ (name : List ℕ) where
       ∙ stable-below 0 (flat_map stable_of items.groups) _ _
       (λ minor. unstable-below minor items.unstable items.unavailable))
 
--- a name letter by letter, and byte by byte
+-- ---- a name letter by letter, and byte by byte
 stays : (letter : ℕ) → (letter ≡ 45 → ⊥) → code_letter letter ≡ letter
 stays letter other = grind (arith, other)
 
@@ -155,7 +155,7 @@ pub code-letters : (name : List ℕ) → IsUtf8 name → encode_utf8_all (map co
 unfolding code_name
 code-letters name utf8 = letters-bytes (chars name) ∙ ap (map code_letter) (encodes-chars name utf8)
 
--- the steps of a note that is written item by item
+-- ---- a note that is written item by item
 
 pub note-starts : (name code note : List ℕ) (e : EntryItems) (left : ItemsLeft) → code ≡ code_name name
     → note ≡ line (codes "## Stable") → left.bytes ≡ e.bytes → left.items ≡ items_of e.items
@@ -177,14 +177,14 @@ note-goes-on name code last head item old new note headed more whole heading nex
     ∙ (append_assoc note (new_heading (heading_of item) last) (lines ++ rest)
     ∙ (ap (λ items. note ++ lines_below name code last items) (sym next) ∙ so))))
 
--- the lines of a replacement, piece by piece
+-- the lines of a replacement are written piece by piece
 pub replaced-written : (code : List ℕ) (r : ReplacementText) (note a b d e new : List ℕ) → a ≡ note ++ codes "```diff\n"
     → b ≡ a ++ link_line (codes "- [") code (codes "::") r.krate → d ≡ b ++ link_line (codes "+ [") [] [] r.std
     → e ≡ d ++ codes "```\n\n" → new ≡ e ++ remark r.note → new ≡ note ++ replaced_lines code r
 replaced-written code r note a b d e new first second third fourth fifth =
     rw (fifth, fourth, third, second, first) (simp append_assoc)
 
--- the parts of a link, and the end of its line
+-- a link is written as one line
 pub link-written : (sign code divider name between url behind end : List ℕ)
     → sign ++ (code ++ (divider ++ (name ++ (between ++ (url ++ (behind ++ end))))))
     ≡ (sign ++ (code ++ (divider ++ (name ++ (between ++ (url ++ behind)))))) ++ end

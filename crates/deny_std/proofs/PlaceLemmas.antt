@@ -1,4 +1,4 @@
--- Crates stand at their places, and what follows.
+-- Crates at their places: order, crates that pass a test, direct dependents.
 use Rattle.std.proofs.Common.{◌≡◌, ◌++◌, ◌+◌, ◌<◌, ℕ, Bool, true, false, List, [], ◌∷◌, Contains, Option, Some, cond}
 use Rattle.std.proofs.Common.{length, map, take, refl, sym, ap, ◌∙◌, subst}
 use Rattle.std.specs.Prelude.{filter, slice_get}
@@ -10,15 +10,15 @@ use Rattle.std.specs.declared.cmp.Ordering.TheVariants.{Less}
 use Rattle.std.proofs.lemmas.List.{map-append, take_more}
 use Rattle.std.proofs.lemmas.List.Elements.{All-contains, filter-append}
 use Rattle.std.proofs.lemmas.Option.{get_or_from_slice_get}
-use Rattle.deny_lists.proofs.Booleans.{tests_agree}
-use Rattle.deny_lists.proofs.Members.{Contains-from_map, any_from, any_passes, some_at}
-use Rattle.deny_lists.proofs.Numbers.{range_with_len-ascends}
+use Rattle.deny_base_lists.proofs.Booleans.{tests_agree}
+use Rattle.deny_base_lists.proofs.Members.{Contains-from_map, any_from, any_passes, some_at}
+use Rattle.deny_base_lists.proofs.Numbers.{range_with_len-ascends}
 use Rattle.deny_krates.specs.Dependents.{AreDirectDependents}
 use Rattle.deny_krates.specs.krate.DirectDependent.{DirectDependent}
 use Rattle.deny_krates.specs.Placed.{ArePlaced}
-use Rattle.deny_krates.proofs.NeighbourLemmas.{dependent_stands}
-use Rattle.deny_model.specs.Graph.{Crate, Graph, dependents}
-use Rattle.deny_model.specs.Told.{crate_at}
+use Rattle.deny_krates.proofs.NeighbourLemmas.{dependent_holds}
+use Rattle.deny_spec.specs.Graph.{Crate, Graph, dependents}
+use Rattle.deny_spec.specs.DiagParts.{crate_at}
 
 each_on : {A : Type 0} (f : A → ℕ) (P : ℕ → Type 0) (xs : List A) → AllByRecursion P (map f xs)
     → AllByRecursion (λ x. P (f x)) xs
@@ -37,7 +37,7 @@ pub places_ascend : (crates : List Crate) → ArePlaced crates → IsStrictlySor
 places_ascend crates placed = ascends_on (λ c. c.place) crates
     (subst (IsStrictlySortedBy nat_cmp) (sym placed.places) (range_with_len-ascends 0 (length crates)))
 
--- a place more of those that pass a test
+-- the places of crates that pass a test, with the next place added
 pub places-more : (test : Crate → Bool) (crates : List Crate) (i : ℕ) (old new : List ℕ) → ArePlaced crates
     → i < length crates → old ≡ map (λ (c : Crate). c.place) (filter test (take i crates))
     → new ≡ old ++ cond (option_map_or test (slice_get crates i) false) (i ∷ []) []
@@ -67,7 +67,7 @@ places-more test crates i old new placed inside before added =
 
 -- ---- direct dependents
 
--- some direct dependent passes a test exactly where one does of those that the graph keeps
+-- a direct dependent passes a test exactly where one that the graph keeps passes it
 pub any-dependent : (g : Graph) (place : ℕ) (ds : List DirectDependent) (test : Crate → Bool) → ArePlaced g.crates
     → AreDirectDependents g place ds
     → list_any (λ d. option_map_or test (crate_at g d.place) false) ds ≡ list_any test (dependents g place)
@@ -78,7 +78,7 @@ any-dependent g place ds test placed direct = tests_agree _ _
     (map (λ (c : Crate). c.place) (dependents g place)) d.place) ds hit.one direct.sound hit.member in
     let of = Contains-from_map (λ (c : Crate). c.place) (dependents g place) hit.one.place listed in
     let here : crate_at g hit.one.place ≡ Some of.from =
-    ap (slice_get g.crates) (sym of.is) ∙ placed.at of.from (dependent_stands g place of.from of.member) in
+    ap (slice_get g.crates) (sym of.is) ∙ placed.at of.from (dependent_holds g place of.from of.member) in
     any_from test (dependents g place) of.from of.member
     (ap (λ (o : Option Crate). option_map_or test o false) (sym here) ∙ hit.passes))
     (λ any.
@@ -87,6 +87,6 @@ any-dependent g place ds test placed direct = tests_agree _ _
     (dependents g place) hit.one direct.whole hit.member in
     let of = Contains-from_map (λ (d : DirectDependent). d.place) ds hit.one.place listed in
     let here : crate_at g of.from.place ≡ Some hit.one =
-    ap (slice_get g.crates) of.is ∙ placed.at hit.one (dependent_stands g place hit.one hit.member) in
+    ap (slice_get g.crates) of.is ∙ placed.at hit.one (dependent_holds g place hit.one hit.member) in
     any_from (λ (d : DirectDependent). option_map_or test (crate_at g d.place) false) ds of.from of.member
     (ap (λ (o : Option Crate). option_map_or test o false) here ∙ hit.passes))

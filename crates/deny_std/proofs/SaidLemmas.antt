@@ -1,4 +1,4 @@
--- What is handed out of an entry is what it says.
+-- The items that an entry of the table gives are those that the table says.
 use Rattle.std.proofs.Common.{◌≡◌, ap, ◌∙◌, map}
 use Rattle.deny_std_table.specs.Item.{items_of}
 use Rattle.deny_std_table.specs.Replacement.{EntryItems, ItemsLeft}

@@ -6,14 +6,14 @@ use Rattle.std.proofs.lemmas.List.Folds.{list_any-append}
 use Rattle.deny_std_table.specs.Spelling.{GroupText, ItemsText, ReplacementText, ApiText}
 use Rattle.deny_std_table.specs.Texts as text
 use Rattle.deny_std_table.specs.Texts.{ItemText, group_texts, item_texts}
-use Rattle.deny_codes.specs.Saying.{Stable, items_said, stable_of}
+use Rattle.deny_spec_report.specs.Saying.{Stable, items_said, stable_of}
 
-abbrev pub is_stable_by : ℕ → ItemText → Bool
+abbrev is_stable_by : ℕ → ItemText → Bool
 is_stable_by minor (text.Stable r since) = nat_le since minor
 is_stable_by minor (text.Unstable r) = false
 is_stable_by minor (text.Unavailable api) = false
 
--- something is stable in this minor version
+-- an item is stable in this minor version
 abbrev pub any_stable : ℕ → List ItemText → Bool
 any_stable minor items = list_any (is_stable_by minor) items
 

@@ -1,12 +1,12 @@
 pub mod Dependents
+pub mod Diags
 pub mod FirstWitnesses
 pub mod Hits
 pub mod Ignored
 pub mod Kept
 pub mod Members
 pub mod Note
+pub mod Partition
 pub mod Replaced
 pub mod Said
-pub mod Sorted
 pub mod StableSince
-pub mod Told

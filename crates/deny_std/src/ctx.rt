@@ -1,28 +1,28 @@
-//! A policy's table `std-replacements` brought together with a graph and a table of replacements.
+//! The policy's table `std-replacements` applied to a graph and a table of replacements.
 ghost use Rattle.std.specs.Prelude.{◌≡◌, IfOk, false, flat_map};
 ghost use Rattle.deny_cfg.specs.PolicyView.{replacing_view, scope_view};
-ghost use Rattle.deny_codes.specs.Saying.{said_in};
-ghost use Rattle.deny_codes.specs.StdReplacements.{looks_at_none};
-ghost use Rattle.deny_lists.specs.First.{FindsFirst};
+ghost use Rattle.deny_spec_report.specs.Saying.{said_in};
+ghost use Rattle.deny_spec_report.specs.StdReplacements.{looks_at_none};
+ghost use Rattle.deny_base_lists.specs.First.{FindsFirst};
 ghost use Rattle.deny_std.specs.Found.{IsFound, IsFoundFrom};
-ghost use Rattle.deny_std.specs.private.FirstWitnesses.{place_in, same_range};
-ghost use Rattle.deny_std.specs.private.Sorted.{passed_at, replaced_in, told_at};
+ghost use Rattle.deny_std.specs.private.FirstWitnesses.{place_in, is_same_span};
+ghost use Rattle.deny_std.specs.private.Partition.{ignored_at, replaced_in, reported_at};
 
-use crate::dependents::Asked;
+use crate::dependents::ScopedGraph;
 use crate::hits::{first_hits, unmatched_of};
 use crate::ignored::Ignored;
+use crate::partition::{Partition, partition_places};
 use crate::places::are_placed;
 use crate::replaced::replaced_places;
 use crate::replacements::Replacements;
-use crate::sorted::{Sorted, sort};
+use deny_base_lists::{List, NoMemory};
 use deny_cfg::Scope;
 use deny_cfg::bans::cfg::StdReplacementConfig;
 use deny_krates::Krates;
-use deny_lists::{List, NoMemory};
 use deny_std_table::ReplacementData;
 use std::alloc::Global;
 
-/// How a policy minds crates that the standard library replaces.
+/// The policy's settings for crates that the standard library replaces.
 #[derive(Drop)]
 pub struct ReplacementCtx {
     cfg: StdReplacementConfig,
@@ -36,8 +36,8 @@ impl ReplacementCtx {
         ReplacementCtx { cfg }
     }
 
-    /// What the table replaces of the graph. None exactly where the scope is none: then nothing is
-    /// looked at.
+    /// The crates of the graph that the table replaces; none exactly where the scope is none, and
+    /// then nothing is looked up.
     pub fn process<'d>(
         self,
         alloc: Global,
@@ -50,7 +50,8 @@ impl ReplacementCtx {
     }
 }
 
-/// The same for a configuration that its owner keeps.
+/// The crates of a graph that a table replaces, as `ReplacementCtx::process`, by settings that the
+/// caller keeps.
 pub fn replacements_of<'d>(
     alloc: Global,
     cfg: &StdReplacementConfig,
@@ -74,7 +75,7 @@ fn is_none(scope: Scope) -> bool
     }
 }
 
-/// What is found with a scope.
+/// The replaced crates of a graph, where the scope is not none.
 fn found_in<'d>(
     alloc: Global,
     cfg: &StdReplacementConfig,
@@ -85,35 +86,35 @@ fn found_in<'d>(
     ensures { IfOk result (IsFoundFrom (replacing_view cfg.now) krates.now (said_in table.entry)) }
 {
     are_placed(krates);
-    let sorted = sorted_in(alloc, cfg, krates, &table)?;
-    let hits = first_hits(alloc, krates, cfg.ignore.as_slice(), &sorted.passed)?;
-    let unmatched = unmatched_of(alloc, cfg.ignore.as_slice(), &sorted.passed)?;
+    let partition = partition_in(alloc, cfg, krates, &table)?;
+    let hits = first_hits(alloc, krates, cfg.ignore.as_slice(), &partition.witnesses)?;
+    let unmatched = unmatched_of(alloc, cfg.ignore.as_slice(), &partition.witnesses)?;
     Ok(Replacements {
         table,
         level: cfg.level,
         unmatched,
-        replaced: sorted.told,
+        replaced: partition.reported,
         hits,
     })
 }
 
-/// The crates that are replaced: those that are told, and the first that each entry passes over.
-fn sorted_in(
+/// The replaced crates: those that are reported, and the first that hits each ignore.
+fn partition_in(
     alloc: Global,
     cfg: &StdReplacementConfig,
     krates: &Krates,
     table: &ReplacementData<'_>,
-) -> Result<Sorted, NoMemory>
-    ensures told { IfOk result (λ sorted. sorted.told ≡ flat_map (told_at cfg.now.ignore krates.now)
+) -> Result<Partition, NoMemory>
+    ensures reported { IfOk result (λ partition. partition.reported ≡ flat_map (reported_at cfg.now.ignore krates.now)
         (replaced_in (replacing_view cfg.now) krates.now (said_in table.now))) }
-    ensures passed { IfOk result (λ sorted. FindsFirst same_range
-        (flat_map (passed_at cfg.now.ignore krates.now)
+    ensures witnesses { IfOk result (λ partition. FindsFirst is_same_span
+        (flat_map (ignored_at cfg.now.ignore krates.now)
         (replaced_in (replacing_view cfg.now) krates.now (said_in table.now)))
-        (place_in sorted.passed)) }
+        (place_in partition.witnesses)) }
 {
     let replaced = replaced_in(alloc, cfg, krates, table)?;
     let ignored = Ignored::new(alloc, cfg.ignore.as_slice())?;
-    sort(alloc, krates, &ignored, replaced.as_slice())
+    partition_places(alloc, krates, &ignored, replaced.as_slice())
 }
 
 /// The places of the crates that are replaced.
@@ -126,6 +127,6 @@ fn replaced_in(
     ensures { IfOk result (λ places. places
         ≡ replaced_in (replacing_view cfg.now) krates.now (said_in table.now)) }
 {
-    let asked = Asked::new(alloc, cfg, krates)?;
-    replaced_places(alloc, &asked, table)
+    let scoped = ScopedGraph::new(alloc, cfg, krates)?;
+    replaced_places(alloc, &scoped, table)
 }

@@ -1,47 +1,47 @@
-//! Which direct dependents of a crate are asked, and which may use what stands in its place.
+//! Which direct dependents of a crate may use the standard library in its place.
 ghost use Rattle.std.specs.Prelude.{◌≡◌, ◌<◌, ℕ, IfOk, Some, length, option_map};
 ghost use Rattle.std.specs.List.{list_any};
 ghost use Rattle.semver.specs.Identifiers.{parts_of};
 ghost use Rattle.deny_cfg.specs.PolicyView.{replacing_view};
-ghost use Rattle.deny_codes.specs.Saying.{Items};
-ghost use Rattle.deny_codes.specs.Members.{is_member};
-ghost use Rattle.deny_codes.specs.StdReplacements.{counting_version, may_replace, satisfies};
+ghost use Rattle.deny_spec_report.specs.Saying.{Items};
+ghost use Rattle.deny_spec_report.specs.Members.{is_member};
+ghost use Rattle.deny_spec_report.specs.StdReplacements.{counting_version, may_replace, satisfies};
 ghost use Rattle.deny_krates.specs.Crates.{crate_view};
-ghost use Rattle.deny_model.specs.Graph.{Crate, Graph, dependents};
-ghost use Rattle.deny_model.specs.Told.{crate_at};
+ghost use Rattle.deny_spec.specs.Graph.{Crate, Graph, dependents};
+ghost use Rattle.deny_spec.specs.DiagParts.{crate_at};
 ghost use Rattle.deny_std.specs.private.Dependents.{may_replace_at};
 ghost use Rattle.deny_std.specs.private.Members.{AreMemberMarks};
 ghost use Rattle.deny_std.specs.private.StableSince.{IsLeastMinor};
 
 use crate::members::{mark_at, member_marks};
-use crate::places::{are_placed, krate_at};
+use crate::places::are_placed;
 use crate::scope::{is_in_scope, is_new_enough};
+use deny_base_lists::{List, NoMemory};
 use deny_cfg::bans::cfg::StdReplacementConfig;
-use deny_krates::{DirectDependent, Krate, Krates};
-use deny_lists::{List, NoMemory};
+use deny_krates::{DirectDependent, Krate, Krates, krate_at};
 use semver::Version;
 use std::alloc::Global;
 
-/// A configuration and a graph, with a mark for each member of the workspace.
+/// The settings and a graph, with a mark for each member of the workspace.
 #[derive(Drop)]
-pub struct Asked<'c> {
+pub struct ScopedGraph<'c> {
     pub cfg: &'c StdReplacementConfig,
     pub krates: &'c Krates,
     members: List<bool>,
     ghost marked: { AreMemberMarks krates.now members },
 }
 
-impl<'c> Asked<'c> {
+impl<'c> ScopedGraph<'c> {
     /// Marks the members of a graph.
     pub fn new(
         alloc: Global,
         cfg: &'c StdReplacementConfig,
         krates: &'c Krates,
-    ) -> Result<Asked<'c>, NoMemory>
-        ensures cfg { IfOk result (λ asked. asked.cfg.now ≡ cfg.entry.now) }
-        ensures krates { IfOk result (λ asked. asked.krates.now ≡ krates.entry.now) }
+    ) -> Result<ScopedGraph<'c>, NoMemory>
+        ensures cfg { IfOk result (λ scoped. scoped.cfg.now ≡ cfg.entry.now) }
+        ensures krates { IfOk result (λ scoped. scoped.krates.now ≡ krates.entry.now) }
     {
-        Ok(Asked {
+        Ok(ScopedGraph {
             cfg,
             krates,
             members: member_marks(alloc, krates)?,
@@ -56,8 +56,9 @@ impl<'c> Asked<'c> {
         mark_at(self.members.as_slice(), place)
     }
 
-    /// Whether a direct dependent of the crate at a place may use what stands in the crate's place.
-    /// The least minor version in which something of it is stable is given.
+    /// Whether a direct dependent of the crate at a place may use the standard library in the
+    /// crate's place. `least` is the least minor version in which an item of the crate's
+    /// replacement is stable.
     pub fn has_replacing(&self, least: Option<u8>, place: u32) -> bool
         requires { place < length self.now.krates.now.crates }
         ensures { (items : Items) → IsLeastMinor items least → result ≡ list_any
@@ -69,33 +70,37 @@ impl<'c> Asked<'c> {
     }
 }
 
-fn is_one_replacing(asked: &Asked<'_>, least: Option<u8>, parents: &[DirectDependent]) -> bool
+fn is_one_replacing(
+    scoped: &ScopedGraph<'_>,
+    least: Option<u8>,
+    parents: &[DirectDependent],
+) -> bool
     ensures { (items : Items) → IsLeastMinor items least → result ≡ list_any
         (λ d. may_replace_at
-        (replacing_view asked.now.cfg.now) asked.now.krates.now items d.place) parents.now }
+        (replacing_view scoped.now.cfg.now) scoped.now.krates.now items d.place) parents.now }
 {
     for parent in parents {
-        if may_replace(asked, least, parent.place) {
+        if may_replace(scoped, least, parent.place) {
             return true;
         }
     }
     false
 }
 
-#[tactic(auto, unfolding(deny_codes::specs::StdReplacements::may_replace))]
-fn may_replace(asked: &Asked<'_>, least: Option<u8>, place: u32) -> bool
+#[tactic(auto, unfolding(deny_spec_report::specs::StdReplacements::may_replace))]
+fn may_replace(scoped: &ScopedGraph<'_>, least: Option<u8>, place: u32) -> bool
     ensures { (items : Items) → IsLeastMinor items least → result
-        ≡ may_replace_at (replacing_view asked.now.cfg.now) asked.now.krates.now items place }
+        ≡ may_replace_at (replacing_view scoped.now.cfg.now) scoped.now.krates.now items place }
 {
-    let Some(krate) = krate_at(asked.krates, place) else {
+    let Some(krate) = krate_at(scoped.krates, place) else {
         return false;
     };
-    let belongs = asked.is_member(place);
-    is_in_scope(asked.cfg.scope, belongs) && satisfies(asked.cfg, krate, least, belongs)
+    let belongs = scoped.is_member(place);
+    is_in_scope(scoped.cfg.scope, belongs) && satisfies(scoped.cfg, krate, least, belongs)
 }
 
-/// Whether a crate's version of Rust is not asked for, or is new enough.
-#[tactic(auto, unfolding(deny_codes::specs::StdReplacements::satisfies))]
+/// Whether the version of Rust is ignored for a crate, or is new enough.
+#[tactic(auto, unfolding(deny_spec_report::specs::StdReplacements::satisfies))]
 fn satisfies(cfg: &StdReplacementConfig, krate: &Krate, least: Option<u8>, belongs: bool) -> bool
     ensures { (items : Items) → (g : Graph) → (place : ℕ) → IsLeastMinor items least
         → belongs ≡ is_member g (crate_view place krate.now)
@@ -105,8 +110,8 @@ fn satisfies(cfg: &StdReplacementConfig, krate: &Krate, least: Option<u8>, belon
         || is_new_enough(least, counting_version(cfg, krate))
 }
 
-/// The crate's version of Rust, or the policy's where it names none.
-#[tactic(auto, unfolding(deny_codes::specs::StdReplacements::counting_version))]
+/// The crate's version of Rust, or the policy's where the crate has none.
+#[tactic(auto, unfolding(deny_spec_report::specs::StdReplacements::counting_version))]
 fn counting_version<'v>(cfg: &'v StdReplacementConfig, krate: &'v Krate) -> Option<&'v Version>
     ensures { (place : ℕ) → option_map (λ v. parts_of v.now) result
         ≡ counting_version (replacing_view cfg.now) (crate_view place krate.now) }

@@ -1,45 +1,45 @@
-//! The first crate that each entry passes over.
+//! The first crate that hits each ignore.
 ghost use Rattle.std.specs.Prelude.{◌≡◌, OnOk};
-ghost use Rattle.deny_lists.specs.First.{FindsFirst, GainsEntry};
+ghost use Rattle.deny_base_lists.specs.First.{FindsFirst, GainsEntry};
 ghost use Rattle.std.specs.Prelude.{[]};
-ghost use Rattle.deny_std.specs.private.FirstWitnesses.{place_in, same_range};
+ghost use Rattle.deny_std.specs.private.FirstWitnesses.{place_in, is_same_span};
 
 use deny_base::Span;
-use deny_lists::NoMemory;
+use deny_base_lists::NoMemory;
 use std::alloc::Global;
 use std::collections::BTreeMap;
 
-/// The place of the first crate that the entry of a range passes over.
+/// The place of the first crate that hits an ignore, by the span of the ignore.
 #[derive(Drop)]
 pub struct FirstWitnesses {
     places: BTreeMap<Span, u32>,
 }
 
 impl FirstWitnesses {
-    /// No entry has a witness yet.
+    /// Starts without a witness.
     pub fn new(alloc: Global) -> FirstWitnesses
-        ensures { FindsFirst same_range [] (place_in result) }
+        ensures { FindsFirst is_same_span [] (place_in result) }
     {
         FirstWitnesses {
             places: BTreeMap::new(alloc),
         }
     }
 
-    /// Adds a crate to those of an entry, which has its range.
-    pub fn add(&mut self, range: Span, place: u32) -> Result<(), NoMemory>
-        ensures { OnOk result (GainsEntry same_range range place (place_in self.old)
+    /// Adds a crate that hits the ignore of a span.
+    pub fn add(&mut self, span: Span, place: u32) -> Result<(), NoMemory>
+        ensures { OnOk result (GainsEntry is_same_span span place (place_in self.old)
             (place_in self.new)) }
     {
-        if !self.places.contains_key(&range) {
-            self.places.insert(range, place)?;
+        if !self.places.contains_key(&span) {
+            self.places.insert(span, place)?;
         }
         Ok(())
     }
 
-    /// The first crate of the entry of a range.
-    pub fn find(&self, range: Span) -> Option<u32>
-        ensures { result ≡ place_in self.now range }
+    /// The first crate that hits the ignore of a span.
+    pub fn find(&self, span: Span) -> Option<u32>
+        ensures { result ≡ place_in self.now span }
     {
-        self.places.get(&range).copied()
+        self.places.get(&span).copied()
     }
 }

@@ -1,23 +1,23 @@
-//! Crates that the standard library replaces: what a policy minds of them, by what a table of
-//! replacements says, which entries of the policy pass some over, and what is told.
+//! Crates that the standard library replaces, by the policy's settings and a table of replacements:
+//! which crates are replaced, which ignores of the policy they hit, and the diagnostics.
 //!
-//! The table itself, its items and its errors are those of the crate below.
+//! The table itself, its items and its errors are those of `deny_std_table`.
 #![tactic(auto)]
 
 mod ctx;
 mod dependents;
+mod diags;
 mod first_witnesses;
 mod hits;
 mod ignored;
 mod members;
 mod note;
+mod partition;
 mod places;
 mod replaced;
 mod replacements;
 mod scope;
-mod sorted;
 mod stable_since;
-mod told;
 
 pub use ctx::{ReplacementCtx, replacements_of};
 pub use deny_std_table::{

@@ -2,11 +2,11 @@
 ghost use Rattle.std.specs.Prelude.{◌≡◌, ◌<◌, All, IfOk, false, length, slice_index_or};
 ghost use Rattle.deny_std.specs.private.Members.{AreMemberMarks, GainsMarks, is_among};
 
+use deny_base_lists::{List, NoMemory};
 use deny_krates::Krates;
-use deny_lists::{List, NoMemory};
 use std::alloc::Global;
 
-/// A mark for each crate, at its place: whether it is a member of the workspace.
+/// A mark for each crate by its place: whether it is a member of the workspace.
 pub fn member_marks(alloc: Global, krates: &Krates) -> Result<List<bool>, NoMemory>
     ensures { IfOk result (AreMemberMarks krates.now) }
 {
@@ -15,7 +15,7 @@ pub fn member_marks(alloc: Global, krates: &Krates) -> Result<List<bool>, NoMemo
     Ok(marks)
 }
 
-/// Sets the marks at some places.
+/// Sets the marks at the given places.
 fn mark_each(marks: &mut List<bool>, places: &[u32])
     requires { All (λ place. place < length marks.old) places.now }
     ensures { GainsMarks (is_among places.now) marks.old marks.new }
@@ -25,7 +25,7 @@ fn mark_each(marks: &mut List<bool>, places: &[u32])
     }
 }
 
-/// The mark at a place; none is as `false`.
+/// The mark at a place, or `false` where there is none.
 pub fn mark_at(marks: &[bool], place: u32) -> bool
     ensures { result ≡ slice_index_or marks.now place false }
 {

@@ -2,27 +2,27 @@
 ghost use Rattle.std.specs.Prelude.{◌≡◌, ◌++◌, IfOk, OnOk, encode_utf8_all, map, option_copied};
 ghost use Rattle.std.specs.Prelude.{string_bytes};
 ghost use Rattle.std.specs.Str.{chars};
-ghost use Rattle.deny_codes.specs.StdReplacements.{code_name, remark, replacement_note};
-ghost use Rattle.deny_codes.specs.StdReplacements.{unavailable_line};
+ghost use Rattle.deny_spec_report.specs.StdReplacements.{code_name, remark, replacement_note};
+ghost use Rattle.deny_spec_report.specs.StdReplacements.{unavailable_line};
 ghost use Rattle.deny_std_table.specs.Texts.{api_given, item_given, replacement_given};
 ghost use Rattle.deny_std.specs.private.Note.{code_letter, heading_line, heading_of, item_lines};
 ghost use Rattle.deny_std.specs.private.Note.{link_line, new_heading, replaced_lines, same_heading};
 ghost use Rattle.deny_std.specs.private.Said.{said_of};
 
-use deny_lists::{NoMemory, Text};
+use deny_base_lists::{NoMemory, Text};
 use deny_std_table::{Api, ApiReplacement, Replacement, ReplacementItem};
 use std::alloc::{AllocError, Global};
 
-/// What stands above items in a note.
+/// The heading above items of a note.
 #[derive(Clone, Copy)]
 pub enum Heading {
-    /// They are stable since this minor version of Rust.
+    /// The items are stable since this minor version of Rust.
     Version(u8),
     Unstable,
     Unavailable,
 }
 
-/// What a table says of the crate of a name, line by line.
+/// The note of what a table says of the crate of a name, line by line.
 pub fn replacement_note(
     alloc: Global,
     name: &str,
@@ -45,7 +45,7 @@ pub fn replacement_note(
 }
 
 /// A name with `_` for `-`.
-#[tactic(auto, unfolding(deny_codes::specs::StdReplacements::code_name))]
+#[tactic(auto, unfolding(deny_spec_report::specs::StdReplacements::code_name))]
 fn code_name(alloc: Global, name: &str) -> Result<Text, NoMemory>
     ensures { IfOk result (λ code. code ≡ code_name name.now) }
 {
@@ -82,7 +82,7 @@ fn same_heading(heading: Heading, last: Heading) -> bool
     }
 }
 
-/// A heading, where it is not the last one.
+/// Appends a heading where it differs from the last one.
 fn add_new_heading(
     alloc: Global,
     note: &mut Text,
@@ -125,7 +125,8 @@ fn add_item(
     }
 }
 
-/// What the crate has, crossed out for what the standard library has.
+/// Appends the lines of a replacement: the crate's API crossed out for that of the standard
+/// library.
 fn add_replacement(
     alloc: Global,
     note: &mut Text,
@@ -159,16 +160,16 @@ fn add_link(
     note.push_str(link.as_str())
 }
 
-fn add_remark(alloc: Global, note: &mut Text, words: Option<&str>) -> Result<(), NoMemory>
-    ensures { OnOk result (note.new ≡ note.old ++ remark (option_copied words.entry)) }
+fn add_remark(alloc: Global, note: &mut Text, text: Option<&str>) -> Result<(), NoMemory>
+    ensures { OnOk result (note.new ≡ note.old ++ remark (option_copied text.entry)) }
 {
-    match words {
-        Some(words) => note.push_str(format!(in alloc; "  {words}\n\n")?.as_str()),
+    match text {
+        Some(text) => note.push_str(format!(in alloc; "  {text}\n\n")?.as_str()),
         None => Ok(()),
     }
 }
 
-/// An API that the standard library has not.
+/// Appends the line of an API that the standard library does not have.
 fn add_unavailable(
     alloc: Global,
     note: &mut Text,

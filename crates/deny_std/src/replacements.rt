@@ -1,21 +1,20 @@
-//! What a table of replacements replaces of a graph.
+//! The crates of a graph that a table of replacements replaces.
 ghost use Rattle.std.specs.Prelude.{◌≡◌, OnErr, OnOk};
-ghost use Rattle.deny_codes.specs.Circumstances.{Circumstances};
-ghost use Rattle.deny_codes.specs.Saying.{Saying};
-ghost use Rattle.deny_codes.specs.StdReplacements.{ignore_hits};
-ghost use Rattle.deny_model.specs.Graph.{Graph};
-ghost use Rattle.deny_model.specs.Policy.{Replacing};
-ghost use Rattle.deny_std.specs.Found.{IsFoundFrom, IsFoundIn, TellsStd, TellsStdPrefix};
+ghost use Rattle.deny_spec_report.specs.Circumstances.{Circumstances};
+ghost use Rattle.deny_spec_report.specs.Saying.{Saying};
+ghost use Rattle.deny_spec_report.specs.StdReplacements.{ignore_hits};
+ghost use Rattle.deny_spec.specs.Graph.{Graph};
+ghost use Rattle.deny_spec.specs.Policy.{Replacing};
+ghost use Rattle.deny_std.specs.Found.{IsFoundFrom, IsFoundIn, ReportsStd, ReportsStdPrefix};
 
-use crate::told::{Unmatched, tell_replaced, tell_unmatched};
+use crate::diags::{Unmatched, report_replaced, report_unmatched};
 use deny_base::{FileId, Hit, LintLevel, Pack};
+use deny_base_lists::{List, NoMemory};
 use deny_krates::Krates;
-use deny_lists::{List, NoMemory};
 use deny_std_table::ReplacementData;
 use std::alloc::Global;
 
-/// The crates of a graph that the standard library replaces, and the entries that pass some of them
-/// over.
+/// The crates of a graph that the standard library replaces, and the ignores that they hit.
 #[derive(Drop)]
 pub struct Replacements<'d> {
     pub(crate) table: ReplacementData<'d>,
@@ -26,8 +25,7 @@ pub struct Replacements<'d> {
 }
 
 impl<'d> Replacements<'d> {
-    /// The entries of `ignore` that were hit, in their order, each by the first crate in graph
-    /// order.
+    /// The hits of the ignores, in the policy's order, each by the first crate in graph order.
     pub fn hits(&self) -> &[Hit]
         ensures { (r : Replacing) → (g : Graph) → (said : Saying) → IsFoundFrom r g said self.now
             → result.now ≡ ignore_hits r g said }
@@ -35,11 +33,11 @@ impl<'d> Replacements<'d> {
         self.hits.as_slice()
     }
 
-    /// Appends what is told of the entries that passed nothing over, and then of each replaced
-    /// crate, one pack each, in the order of their keys. The graph has to be the one that this was
-    /// found on; the number is that of the policy's file.
+    /// Appends one pack for each ignore that was not hit, and then one for each replaced crate,
+    /// in the order of their keys. `krates` has to be the graph that this was found in, and `id`
+    /// the policy's file.
     ///
-    /// Where memory runs out, a prefix of it was appended, which may be empty.
+    /// Where memory runs out, a prefix of the packs was appended, which may be empty.
     pub fn emit_diagnostics(
         self,
         alloc: Global,
@@ -47,33 +45,33 @@ impl<'d> Replacements<'d> {
         sink: &mut List<Pack>,
         id: FileId,
     ) -> Result<(), NoMemory>
-        ensures told { OnOk result ((c : Circumstances) → c.graph ≡ krates.now
+        ensures reported { OnOk result ((c : Circumstances) → c.graph ≡ krates.now
             → IsFoundIn c id self.entry
-            → TellsStd c sink.old sink.new) }
+            → ReportsStd c sink.old sink.new) }
         ensures prefix { OnErr result ((c : Circumstances) → c.graph ≡ krates.now
             → IsFoundIn c id self.entry
-            → TellsStdPrefix c sink.old sink.new) }
+            → ReportsStdPrefix c sink.old sink.new) }
     {
-        self.tell(alloc, krates, sink, id)
+        self.report(alloc, krates, sink, id)
     }
 
-    /// The same of what is kept.
-    fn tell(
+    /// Appends the packs, as `emit_diagnostics`, of what is kept.
+    fn report(
         &self,
         alloc: Global,
         krates: &Krates,
         sink: &mut List<Pack>,
         id: FileId,
     ) -> Result<(), NoMemory>
-        ensures told { OnOk result ((c : Circumstances) → c.graph ≡ krates.now
+        ensures reported { OnOk result ((c : Circumstances) → c.graph ≡ krates.now
             → IsFoundIn c id self.now
-            → TellsStd c sink.old sink.new) }
+            → ReportsStd c sink.old sink.new) }
         ensures prefix { OnErr result ((c : Circumstances) → c.graph ≡ krates.now
             → IsFoundIn c id self.now
-            → TellsStdPrefix c sink.old sink.new) }
+            → ReportsStdPrefix c sink.old sink.new) }
     {
-        tell_unmatched(alloc, self.unmatched.as_slice(), id, sink)?;
-        tell_replaced(
+        report_unmatched(alloc, self.unmatched.as_slice(), id, sink)?;
+        report_replaced(
             alloc,
             &self.table,
             self.level,

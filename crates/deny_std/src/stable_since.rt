@@ -1,11 +1,11 @@
-//! Since which minor version of Rust something is stable.
+//! Since which minor version of Rust an item is stable.
 ghost use Rattle.std.specs.Prelude.{◌≡◌, ◌||◌, ℕ, Some, nat_le};
 ghost use Rattle.deny_std.specs.private.Said.{said_of};
 ghost use Rattle.deny_std.specs.private.StableSince.{IsLeastMinor, is_reached};
 
 use deny_std_table::{Replacement, ReplacementItem};
 
-/// The least minor version in which something of a crate is stable in the standard library.
+/// The least minor version in which an item of a replacement is stable.
 pub fn least_minor(replacement: &Replacement<'_>) -> Option<u8>
     ensures { IsLeastMinor (said_of replacement.now) result }
 {

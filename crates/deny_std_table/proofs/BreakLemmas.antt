@@ -1,11 +1,11 @@
--- No reading of a table wants memory: each of its breaks has an offset.
+-- Reading a table never runs out of memory: each of its breaks has an offset.
 use Rattle.std.proofs.Common.{◌≡◌, ℕ, zero, suc, ◌+◌, ◌*◌, ◌&&◌, Bool, true, false, nat_lt, nat_le, List, length}
 use Rattle.std.proofs.Common.{Option, None, Some, Result, Ok, Err, if◌then◌else◌, ap, ◌∙◌}
 use Rattle.deny_std_table.specs.declared.error.ReplacementError.{ReplacementError}
 use Rattle.deny_std_table.specs.declared.error.ReplacementError.TheVariants.{Bad, Memory}
 use Rattle.deny_std_table.specs.declared.spans.TextSpan.{TextSpan}
 use Rattle.deny_std_table.specs.declared.spans.Read.{Read}
-use Rattle.deny_lists.specs.Reader.{◌>>=◌}
+use Rattle.deny_base_lists.specs.Reader.{◌>>=◌}
 use Rattle.deny_std_table.specs.Reading.{◌>>◌, unless_bad, many, number}
 use Rattle.deny_std_table.specs.Region.{Bounds, byte, text, api, replacement, group_head, group, counts, counted_items}
 use Rattle.deny_std_table.specs.Region.{items}
@@ -15,7 +15,7 @@ use Rattle.deny_std_table.specs.Table.{table}
 use Rattle.deny_std_table.specs.Layout.{IsTable}
 use Rattle.deny_std_table.proofs.TableLaw.{table-complete}
 
--- An answer other than want of memory.
+-- The result is not that memory ran out.
 record IsAnswer {A : Type 0} (r : Result A ReplacementError) : Type 0 where
   pub never : r ≡ Err Memory → ⊥
 
@@ -128,7 +128,7 @@ table-answer bytes = bound _ _ (header-answer bytes) (λ width. bound _ _ (count
     (λ count. offsets-answer bytes count 0 count _ (entries-answer width bytes count None 0 count)))
 
 -- a table's break has an offset
-pub table-no_memory : (bytes : List ℕ) → table bytes ≡ Err Memory → ⊥
+table-no_memory : (bytes : List ℕ) → table bytes ≡ Err Memory → ⊥
 table-no_memory bytes = (table-answer bytes).never
 
 -- no bytes have both a break and entries

@@ -21,7 +21,7 @@ use Rattle.deny_std_table.specs.private.Draft.{Writes}
 use Rattle.deny_std_table.proofs.LayoutLemmas.{bind-ok, many-sound}
 use Rattle.deny_std_table.proofs.DraftLemmas.{writes-then, writes-same}
 
--- Several of a kind are written, where they can be read.
+-- A row of parts is written, where it can be read.
 pub record RowWritten {A T : Type 0} (reader : ℕ → Result (Read A) ReplacementError) (say : A → T)
     (spell : T → List ℕ) (count at : ℕ) (old new : Draft) : Type 0 where
   pub row : (r : Read (List A)) → many reader count at ≡ Ok r → Writes old new (flat_map spell (map say r.value))
@@ -150,7 +150,7 @@ entry-written b start name d0 d1 d2 stop e here name_written stops items_written
           (writes-then d0 d1 d2 _ _ name_written (items_written rest.0 reads))),
     )
 
--- an entry whose name breaks is none
+-- an entry whose name breaks is no entry
 pub no-entry : (b : Bounds) (start : ℕ) (x : ReplacementError) (e : Entry) → text b start ≡ Err x
     → entry b None start ≡ Ok e → ⊥
 unfolding entry

@@ -1,4 +1,4 @@
--- On what is read and written one after the other.
+-- Rows of parts that are read and written one after the other.
 use Rattle.std.proofs.Common.{◌≡◌, ℕ, suc, ◌+◌, List, [], ◌∷◌, ◌++◌, map, Result, Ok, Err, refl, sym, ap, ◌∙◌, arith}
 use Rattle.std.proofs.Common.{subst, append_assoc, append-nil}
 use Rattle.std.specs.Prelude.{flat_map}
@@ -12,7 +12,7 @@ use Rattle.deny_std_table.proofs.LayoutLemmas.{bind-ok}
 use Rattle.deny_std_table.proofs.ReadingLemmas.{next_of-many_more, next_of-many_break, next_of-many_none}
 use Rattle.deny_std_table.proofs.DraftLemmas.{writes-none, writes-then, writes-same}
 
--- Of several of a kind, those that were read were written, and the rest is still to come.
+-- The parts of a row that were read were written, and the rest remains.
 pub record PartWritten {A T : Type 0} (reader : ℕ → Result (Read A) ReplacementError) (say : A → T)
     (spell : T → List ℕ) (left next : ℕ) (old now : Draft) (all : List A) : Type 0 where
   pub so_far : List ℕ
@@ -21,14 +21,14 @@ pub record PartWritten {A T : Type 0} (reader : ℕ → Result (Read A) Replacem
   pub written : Writes old now so_far
   pub whole : so_far ++ flat_map spell (map say rest.value) ≡ flat_map spell (map say all)
 
--- How far a loop has come that copies so many of a kind.
+-- The state of a loop that copies this many parts.
 pub record Progress {A T : Type 0} (reader : ℕ → Result (Read A) ReplacementError) (say : A → T)
     (spell : T → List ℕ) (count at left next : ℕ) (old now : Draft) : Type 0 where
   pub value : next_of (many reader left next) ≡ next_of (many reader count at)
   pub part : (r : Read (List A)) → many reader count at ≡ Ok r
       → PartWritten reader say spell left next old now r.value
 
--- a reading that stops somewhere has read something
+-- a reading that stops at an offset has read something
 read-of : {A : Type 0} (r : Result (Read A) ReplacementError) (next : ℕ) → next_of r ≡ Ok next
     → (x : Read A) × (r ≡ Ok x) × (x.next ≡ next)
 read-of (Ok x) next is = (x, refl, cc)
@@ -84,7 +84,7 @@ progress-more reader say spell count at now_left left next after old now new few
           (subst (λ n. PartWritten reader say spell n next old now r.value) (sym same) (is.part r reads)));
     }
 
--- the next one breaks
+-- the next part breaks
 pub progress-break : {A T : Type 0} (reader : ℕ → Result (Read A) ReplacementError) (say : A → T)
     (spell : T → List ℕ) (count at now_left left next : ℕ) (e : ReplacementError) (old now : Draft)
     → left + 1 ≡ now_left → next_of (reader next) ≡ Err e
@@ -92,7 +92,7 @@ pub progress-break : {A T : Type 0} (reader : ℕ → Result (Read A) Replacemen
 progress-break reader say spell count at now_left left next e old now fewer breaks is =
     sym is.value ∙ next_of-many_break reader now_left left next e fewer breaks
 
--- all were read
+-- all parts were read
 pub progress-value : {A T : Type 0} (reader : ℕ → Result (Read A) ReplacementError) (say : A → T)
     (spell : T → List ℕ) (count at left next : ℕ) (old now : Draft) → left ≡ 0
     → Progress reader say spell count at left next old now → Ok next ≡ next_of (many reader count at)
@@ -118,7 +118,7 @@ pub broken-nothing : {A : Type 0} (r : Result (Read A) ReplacementError) (e : Re
 broken-nothing (Ok y) e x breaks is = cc
 broken-nothing (Err d) e x breaks is = cc
 
--- the one that was read is the one that was written
+-- the part that was read is the part that was written
 pub writes-read : {A T : Type 0} (reader : ℕ → Result (Read A) ReplacementError) (say : A → T) (spell : T → List ℕ)
     (next : ℕ) (now new : Draft) (one r : Read A) → reader next ≡ Ok one → reader next ≡ Ok r
     → Writes now new (spell (say one.value)) → Writes now new (spell (say r.value))

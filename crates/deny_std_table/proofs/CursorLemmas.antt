@@ -1,4 +1,4 @@
--- On the items that are still to come.
+-- The items that are left.
 use Rattle.std.proofs.Common.{◌≡◌, ℕ, zero, suc, ◌-◌, ◌<◌, List, [], ◌∷◌, ◌++◌, map, Result, Ok, refl, sym, ap, ◌∙◌}
 use Rattle.std.proofs.Common.{arith, subst, subst₂, append_assoc}
 use Rattle.std.specs.Prelude.{flat_map}
@@ -15,9 +15,9 @@ use Rattle.deny_std_table.specs.Region.{Bounds, Group, Items, api, replacement, 
 use Rattle.deny_std_table.specs.Item.{group_items, items_of}
 use Rattle.deny_std_table.specs.Cursor.{coming}
 use Rattle.deny_std_table.proofs.LayoutLemmas.{bind-ok}
-use Rattle.deny_lists.proofs.Equalities.{subst₃}
+use Rattle.deny_base_lists.proofs.Equalities.{subst₃}
 
--- a reading of several, the first of which is there: the first and the others
+-- a row with at least one part: the first part and the others
 many-first : {A : Type 0} (reader : ℕ → Result (Read A) ReplacementError) (left at : ℕ) (all : Read (List A))
     → many reader (suc left) at ≡ Ok all
     → (first : Read A) × (reader at ≡ Ok first) × (others : Read (List A)) × (many reader left first.next ≡ Ok others)
@@ -41,8 +41,8 @@ zero-is : {A : Type 0} (reader : ℕ → Result (Read A) ReplacementError) (at :
 unfolding many
 zero-is reader at all is = cc
 
--- What is still to come, part by part.
-pub record IsComing (b : Bounds) (minor stable : ℕ) (counts : Counts) (at : ℕ) (items : List ItemSpans) : Type 0 where
+-- The items that are left, part by part.
+record IsComing (b : Bounds) (minor stable : ℕ) (counts : Counts) (at : ℕ) (items : List ItemSpans) : Type 0 where
   pub own : Read (List ReplacementSpans)
   pub others : Read (List Group)
   pub unstable : Read (List ReplacementSpans)
@@ -84,7 +84,7 @@ unfolding coming counted_items
 coming-whole b minor stable counts at items is =
     rw (is.own_read, is.others_read, is.unstable_read, is.unavailable_read) (ap Ok is.all)
 
--- What comes after one item.
+-- The items that are left after one item.
 pub record IsStep (b : Bounds) (minor stable : ℕ) (counts : Counts) (at : ℕ) (items : List ItemSpans)
     (spans : ItemSpans) : Type 0 where
   pub rest : List ItemSpans
@@ -122,7 +122,7 @@ stable_step b minor left counts at items is =
       },
     )
 
--- with nothing left of the group at hand, the other groups come at once
+-- where nothing is left of the current group, the other groups follow
 others-first : (b : Bounds) (minor : ℕ) (counts : Counts) (at : ℕ) (items : List ItemSpans)
     (is : IsComing b minor 0 counts at items)
     → (many (group b) counts.groups at ≡ Ok is.others)
@@ -242,7 +242,7 @@ regrouped : (own later unstable unavailable : List ItemSpans)
     → own ++ (later ++ unstable ++ unavailable) ≡ (own ++ later) ++ unstable ++ unavailable
 regrouped own later unstable unavailable = simp append_assoc
 
--- the next group is at hand, with all of its replacements
+-- the next group becomes the current one, with all of its replacements
 group_step : (b : Bounds) (minor left unstable unavailable at : ℕ) (items : List ItemSpans)
     → IsComing b minor 0 (record { groups = suc left; unstable = unstable; unavailable = unavailable }) at items
     → (head : Read GroupHead) × (group_head b at ≡ Ok head)
@@ -281,13 +281,13 @@ group_step b minor left unstable unavailable at items is =
           }),
     )
 
--- all items of an entry come, where no group is at hand yet
+-- all items of an entry are left before its first group
 pub coming-begin : (b : Bounds) (minor : ℕ) (counts : Counts) (at : ℕ) (all : Read Items)
     → counted_items b counts at ≡ Ok all → coming b minor 0 counts at ≡ Ok (items_of all.value)
 unfolding coming many
 coming-begin b minor counts at all is = rw is refl
 
--- the same, where the numbers are not zero
+-- the first item where the counts are not zero
 
 pub stable_gives : (b : Bounds) (minor stable : ℕ) (counts : Counts) (at : ℕ) (items : List ItemSpans) → 0 < stable
     → coming b minor stable counts at ≡ Ok items

@@ -65,7 +65,7 @@ is-ok r s x first second = subst IsOk (sym (first ∙ second)) refl
 left-is : {A : Type 0} (r : Result A ReplacementError) (x other : A) → r ≡ Ok x → x ≡ result_unwrap_or r other
 left-is r x other is = sym (ap (λ t. result_unwrap_or t other) is)
 
--- a step is what a cursor gives
+-- the item of a step is the one that a cursor gives
 gives : (old new : Cursor) (spans : ItemSpans) → new.region ≡ old.region
     → IsStep (bounds (width_of new.region.width) new.region.bytes.now new.region.stop) new.minor new.stable new.counts
     new.at (left_of old) spans
@@ -143,7 +143,7 @@ group_answer old got none some reads is =
       (group_head-sound b old.at got is).3,
     )
 
--- what a cursor is about to read is there
+-- the item that a cursor reads next is there
 pub stable_ready : (old : Cursor) (r : Result (Read ReplacementSpans) ReplacementError) → 0 < old.stable
     → coming_of old ≡ Ok (left_of old)
     → r ≡ replacement (bounds (width_of old.region.width) old.region.bytes.now old.region.stop) old.at → IsOk r
@@ -178,7 +178,7 @@ group_ready old r none some reads is =
     old.stable old.counts old.at (left_of old) none some reads in
     is-ok r _ next.0 is next.1
 
--- with nothing left a cursor has ended
+-- a cursor with nothing left has ended
 pub ended_answer : (c : Cursor) → c.stable ≡ 0 → c.counts.groups ≡ 0 → c.counts.unstable ≡ 0 → c.counts.unavailable ≡ 0
     → coming_of c ≡ Ok (left_of c) → Ends c c
 ended_answer c none groups unstable unavailable reads =

@@ -1,14 +1,14 @@
--- On bytes that are written one after the other.
+-- Bytes that are written one after the other.
 use Rattle.std.proofs.Common.{◌≡◌, ℕ, List, [], ◌++◌, sym, subst, append_assoc, append-nil}
 use Rattle.deny_std_table.specs.declared.draft.Draft.{Draft}
 use Rattle.deny_std_table.specs.Spelling.{text_bytes}
 use Rattle.deny_std_table.specs.private.Draft.{IsDraft, Writes}
 
--- nothing was written yet
+-- no bytes were written
 pub writes-none : (d : Draft) → Writes d d []
 writes-none d = record { adds = λ xs is. subst (IsDraft d) (sym (append-nil xs)) is }
 
--- first these bytes, then those
+-- bytes that are written after others
 pub writes-then : (old mid new : Draft) (xs ys : List ℕ) → Writes old mid xs → Writes mid new ys
     → Writes old new (xs ++ ys)
 writes-then old mid new xs ys first second = record {
@@ -18,7 +18,7 @@ writes-then old mid new xs ys first second = record {
 pub writes-same : (old new : Draft) (xs ys : List ℕ) → xs ≡ ys → Writes old new xs → Writes old new ys
 writes-same old new xs ys same is = subst (Writes old new) same is
 
--- the text that stands in a span
+-- the text of a span is written
 pub writes-text : (old new : Draft) (text other : List ℕ) → text ≡ other → Writes old new (text_bytes text)
     → Writes old new (text_bytes other)
 writes-text old new text other same is = subst (λ t. Writes old new (text_bytes t)) same is

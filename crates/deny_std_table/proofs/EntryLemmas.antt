@@ -1,4 +1,4 @@
--- On the entries of a table that holds, and the one that has a name.
+-- The entries of a table that was read, and the entry with a name.
 use Rattle.std.proofs.Common.{◌≡◌, ℕ, ◌+◌, ◌<◌, ◌≤◌, Bool, true, false, nat_lt, List, length, Option, Some, None, Ok}
 use Rattle.std.proofs.Common.{refl, sym, ap, ◌∙◌, arith, subst, if◌then◌else◌}
 use Rattle.std.specs.Prelude.{find, IsOk, option_map, bytes_eq, ◌≢◌}
@@ -19,8 +19,8 @@ use Rattle.deny_std_table.specs.Layout.{IsEntry}
 use Rattle.deny_std_table.specs.private.Names.{name_span, name_at, HasNames}
 use Rattle.deny_std_table.specs.Table.{Table, IsRead, read_entries, entry_named, items_in}
 use Rattle.deny_std_table.specs.Replacement.{EntryItems}
-use Rattle.deny_lists.proofs.Members.{some_at}
-use Rattle.deny_lists.proofs.Finding.{find-at, find-none}
+use Rattle.deny_base_lists.proofs.Members.{some_at}
+use Rattle.deny_base_lists.proofs.Finding.{find-at, find-none}
 use Rattle.deny_std_table.proofs.LayoutLemmas.{span_is}
 use Rattle.deny_std_table.proofs.TableLaw.{IsEntries, entries-sound, entry-complete}
 use Rattle.deny_std_table.proofs.NamesLemmas.{rising_all}
@@ -92,7 +92,7 @@ has_names width bytes count is = record {
         let above = (all.1.rising i n.e m.e n.at m.at).above n.e.name refl in
         rw (names_are width bytes count i n, names_are width bytes count (i + 1) m) above
 
--- the region of an entry opens it
+-- the entry is opened in its region
 pub opened : (width of_width : ℕ) (bytes of_region : List ℕ) (count i stop start : ℕ) (n : IsNamed width bytes count i)
     → of_width ≡ width → of_region ≡ bytes → stop ≡ stop_of bytes count i
     → start ≡ start_of bytes i → entry (bounds of_width of_region stop) None start ≡ Ok n.e
@@ -117,8 +117,8 @@ not_equal a b less equal =
     ∙ tied_itself nat_list_cmp_total b in
     cc
 
--- no entry has a name that none of the names is
-pub entry_none : (width : ℕ) (bytes : List ℕ) (count : ℕ) (name : List ℕ) → IsRead width bytes count
+-- there is no entry with a name that is none of the names
+entry_none : (width : ℕ) (bytes : List ℕ) (count : ℕ) (name : List ℕ) → IsRead width bytes count
     → ((i : ℕ) → i < count → name_at width bytes i ≢ name)
     → find (λ e. bytes_eq (contents bytes e.name) name) (read_entries width bytes count) ≡ None
 entry_none width bytes count name is apart = find-none _ (read_entries width bytes count) each
@@ -136,8 +136,8 @@ entry_none width bytes count name is apart = find-none _ (read_entries width byt
         (λ equal. apart k below (names_are width bytes count k n ∙ ap (λ (t : Entry). contents bytes t.name) same
         ∙ equal))
 
--- the entry that has the name is the only one
-pub entry_some : (width : ℕ) (bytes : List ℕ) (count i : ℕ) (name : List ℕ) → IsRead width bytes count → i < count
+-- the entry with the name is the only one
+entry_some : (width : ℕ) (bytes : List ℕ) (count i : ℕ) (name : List ℕ) → IsRead width bytes count → i < count
     → name_at width bytes i ≡ name
     → (n : IsNamed width bytes count i)
     → find (λ e. bytes_eq (contents bytes e.name) name) (read_entries width bytes count) ≡ Some n.e

@@ -1,4 +1,4 @@
--- What was read from a table can be written in version 2.
+-- A table that was read can be written in version 2.
 use Rattle.std.proofs.Common.{◌≡◌, ℕ, suc, ◌+◌, ◌<◌, ◌≤◌, ◌⊎◌, inl, inr, List, [], ◌∷◌, length, drop, map, Some, None}
 use Rattle.std.proofs.Common.{refl, sym, ap, ◌∙◌, arith, subst, length-take, length-drop, option_map, Result, Ok, Err}
 use Rattle.std.proofs.Common.{Bool, true, false, ◌==◌, if◌then◌else◌}
@@ -27,8 +27,8 @@ use Rattle.deny_std_table.proofs.TableLaw.{get-suc, table-sound}
 use Rattle.deny_std_table.proofs.SpellingLaw.{Fits, TextFits, ApiFits, ReplacementFits, GroupFits, ItemsFit, EntryFits}
 use Rattle.deny_std_table.proofs.SpellingTable.{Rises, TableFits, table_read}
 
--- An entry's bounds in bytes of a version that is known.
-pub record IsSound (b : Bounds) : Type 0 where
+-- The bounds of an entry in bytes of a known version.
+record IsSound (b : Bounds) : Type 0 where
   pub known : (b.width ≡ 1) ⊎ (b.width ≡ 2)
   pub bytes : (k : ℕ) → slice_index b.bytes k < 256
   pub within : b.stop ≤ length b.bytes
@@ -144,7 +144,7 @@ rises-from bytes (e ∷ f ∷ es) above = (
 )
 
 -- a table that was read can be written, where it is not too long
-pub table-fits : (bytes : List ℕ) (es : List Entry) → ((k : ℕ) → slice_index bytes k < 256) → IsTable bytes es
+table-fits : (bytes : List ℕ) (es : List Entry) → ((k : ℕ) → slice_index bytes k < 256) → IsTable bytes es
     → length (table_bytes (texts_of bytes es)) < 4294967296 → TableFits (texts_of bytes es)
 table-fits bytes es small is short =
     let size = length-map es (entry_text bytes) in
@@ -159,7 +159,7 @@ table-fits bytes es small is short =
       short = short;
     }
 
--- what is written for a table that was read says the same
+-- the bytes that are written for a table that was read say the same
 pub says-the-same : (width : ℕ) (bytes : List ℕ) (count : ℕ) → ((k : ℕ) → slice_index bytes k < 256)
     → IsRead width bytes count
     → (written : List ℕ) → written ≡ table_bytes (texts_of bytes (read_entries width bytes count))

@@ -1,4 +1,4 @@
--- What the readers answer is what a table is, both ways.
+-- The readers give exactly what the layout of a table allows.
 use Rattle.std.proofs.Common.{◌≡◌, ℕ, zero, suc, ◌+◌, ◌<◌, ◌≤◌, ◌&&◌, nat_lt, nat_le, Bool, true, false, List, [], ◌∷◌}
 use Rattle.std.proofs.Common.{length, Result, Ok, Err, slice_index, refl, sym, ap, ◌∙◌, arith, subst, if◌then◌else◌}
 use Rattle.std.proofs.lemmas.Bool.{and_parts, ltb-true, lt-ltb}
@@ -14,25 +14,25 @@ use Rattle.deny_std_table.specs.declared.spans.GroupHead.{GroupHead}
 use Rattle.deny_std_table.specs.declared.spans.Counts.{Counts}
 use Rattle.deny_std_table.specs.declared.spans.Read.{Read}
 use Rattle.deny_std_table.specs.Spans.{contents}
-use Rattle.deny_lists.specs.Reader.{◌>>=◌}
+use Rattle.deny_base_lists.specs.Reader.{◌>>=◌}
 use Rattle.deny_std_table.specs.Reading.{◌>>◌, unless_bad, read, number, many}
 use Rattle.deny_std_table.specs.Region.{Bounds, Group, Items, nonempty_note, text_span, byte, text, api, replacement}
 use Rattle.deny_std_table.specs.Region.{group_head, group, counts, counted_items, items}
 use Rattle.deny_std_table.specs.Layout.{IsByte, IsText, IsApi, IsReplacement, IsRow, ended, more, IsGroup, IsItems}
 
--- a step that came to its end did so by a first part
+-- a step that succeeded has a first part that succeeded
 pub bind-ok : {A B : Type 0} (r : Result A ReplacementError) (f : A → Result B ReplacementError) (y : B)
     → (r >>= f) ≡ Ok y → (x : A) × (r ≡ Ok x) × (f x ≡ Ok y)
 bind-ok (Ok x) f y is = (x, refl, is)
 bind-ok (Err e) f y is = cc
 
--- so did a step behind a test
+-- a step after a test that succeeded has a test that holds
 pub unless_bad-then : {A : Type 0} (test : Bool) (offset : ℕ) (r : Result A ReplacementError) (y : A)
     → (unless_bad test offset >> r) ≡ Ok y → (test ≡ true) × (r ≡ Ok y)
 unless_bad-then true offset r y is = (refl, is)
 unless_bad-then false offset r y is = cc
 
-pub test-ok : {A : Type 0} (test : Bool) (x y : A) (e : ReplacementError) → (if test then Ok x else Err e) ≡ Ok y
+test-ok : {A : Type 0} (test : Bool) (x y : A) (e : ReplacementError) → (if test then Ok x else Err e) ≡ Ok y
     → (test ≡ true) × (x ≡ y)
 test-ok true x y e is = (refl, cc)
 test-ok false x y e is = cc
@@ -41,14 +41,14 @@ test-true : {A : Type 0} (test : Bool) (x y : A) → test ≡ true → (if test 
 test-true true x y is = refl
 test-true false x y is = cc
 
-pub byte-sound : (b : Bounds) (at : ℕ) (r : Read ℕ) → byte b at ≡ Ok r → IsByte b at r.value r.next
+byte-sound : (b : Bounds) (at : ℕ) (r : Read ℕ) → byte b at ≡ Ok r → IsByte b at r.value r.next
 unfolding byte
 byte-sound b at r is =
     let parts = test-ok (nat_lt at b.stop) (read (slice_index b.bytes at) (at + 1)) r (Bad b.stop) is in
     subst (λ t. IsByte b at t.value t.next) parts.1
     (record { inside = ltb-true at b.stop parts.0; is = refl; after = refl })
 
-pub byte-complete : (b : Bounds) (at value next : ℕ) → IsByte b at value next → byte b at ≡ Ok (read value next)
+byte-complete : (b : Bounds) (at value next : ℕ) → IsByte b at value next → byte b at ≡ Ok (read value next)
 unfolding byte
 byte-complete b at value next is =
     test-true (nat_lt at b.stop) _ _ (lt-ltb at b.stop is.inside) ∙ rw (is.is, is.after) refl
@@ -103,7 +103,7 @@ replacement-sound b at r is =
       note = refl;
     })
 
--- so many of a kind were read: they stand in a row, and are so many
+-- parts that were read make a row of their number
 pub many-sound : {A : Type 0} (reader : ℕ → Result (Read A) ReplacementError) (IsOne : ℕ → A → ℕ → Type 0)
     → ((at : ℕ) (r : Read A) → reader at ≡ Ok r → IsOne at r.value r.next)
     → (count at : ℕ) (r : Read (List A)) → many reader count at ≡ Ok r
@@ -138,7 +138,7 @@ group_head-sound b at r is =
       ltb-true 0 count.0.value tested.0,
     )
 
-pub group-sound : (b : Bounds) (at : ℕ) (r : Read Group) → group b at ≡ Ok r → IsGroup b at r.value r.next
+group-sound : (b : Bounds) (at : ℕ) (r : Read Group) → group b at ≡ Ok r → IsGroup b at r.value r.next
 unfolding group
 group-sound b at r is =
     let head = bind-ok (group_head b at) _ r is in
@@ -156,7 +156,7 @@ group-sound b at r is =
       replacements = row.0;
     })
 
-pub counts-sound : (b : Bounds) (at : ℕ) (r : Read Counts) → counts b at ≡ Ok r
+counts-sound : (b : Bounds) (at : ℕ) (r : Read Counts) → counts b at ≡ Ok r
     → (one : ℕ) × (two : ℕ) × IsByte b at r.value.groups one × IsByte b one r.value.unstable two
     × IsByte b two r.value.unavailable r.next
 unfolding counts
@@ -226,13 +226,13 @@ text-complete b at span next is =
     then Ok (read p (p.at + p.size)) else Err (Bad at)) ≡ Ok (read span next) in
     subst P same (rw (inside, whole, utf8, ends) refl)
 
-pub api-complete : (b : Bounds) (at : ℕ) (spans : ApiSpans) (next : ℕ) → IsApi b at spans next
+api-complete : (b : Bounds) (at : ℕ) (spans : ApiSpans) (next : ℕ) → IsApi b at spans next
     → api b at ≡ Ok (read spans next)
 unfolding api
 api-complete b at spans next is =
     rw (text-complete b at spans.name is.after_name is.name, text-complete b is.after_name spans.url next is.url) refl
 
-pub replacement-complete : (b : Bounds) (at : ℕ) (spans : ReplacementSpans) (next : ℕ) → IsReplacement b at spans next
+replacement-complete : (b : Bounds) (at : ℕ) (spans : ReplacementSpans) (next : ℕ) → IsReplacement b at spans next
     → replacement b at ≡ Ok (read spans next)
 unfolding replacement
 replacement-complete b at spans next is =
@@ -243,7 +243,7 @@ replacement-complete b at spans next is =
       ← is.note,
     ) refl
 
-pub many-complete : {A : Type 0} (reader : ℕ → Result (Read A) ReplacementError) (IsOne : ℕ → A → ℕ → Type 0)
+many-complete : {A : Type 0} (reader : ℕ → Result (Read A) ReplacementError) (IsOne : ℕ → A → ℕ → Type 0)
     → ((at : ℕ) (x : A) (next : ℕ) → IsOne at x next → reader at ≡ Ok (read x next))
     → (at : ℕ) (xs : List A) (next : ℕ) → IsRow IsOne at xs next → many reader (length xs) at ≡ Ok (read xs next)
 unfolding many
@@ -251,7 +251,7 @@ many-complete reader IsOne one at [] next ended = refl
 many-complete reader IsOne one at (x ∷ xs) next (more {between = between} first others) =
     rw (one at x between first, many-complete reader IsOne one between xs next others) refl
 
-pub group-complete : (b : Bounds) (at : ℕ) (g : Group) (next : ℕ) → IsGroup b at g next → group b at ≡ Ok (read g next)
+group-complete : (b : Bounds) (at : ℕ) (g : Group) (next : ℕ) → IsGroup b at g next → group b at ≡ Ok (read g next)
 unfolding group group_head
 group-complete b at g next is =
     let test : nat_lt 0 (length g.replacements) ≡ true = lt-ltb 0 (length g.replacements) is.some in

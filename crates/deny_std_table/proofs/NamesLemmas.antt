@@ -1,4 +1,4 @@
--- On names that rise, among which one is looked for.
+-- The search for a name among ascending names.
 use Rattle.std.proofs.Common.{◌≡◌, ℕ, zero, suc, ◌+◌, ◌-◌, ◌<◌, ◌≤◌, List, refl, sym, ap, ◌∙◌, arith, subst, inl, inr}
 use Rattle.std.proofs.Math.Nat.{eq-or-lt_of_le}
 use Rattle.std.proofs.Common.{Bool, true, false, nat_lt}
@@ -39,7 +39,7 @@ turned a b is = nat_list_cmp_total.antisymm b a ∙ ap ordering_reverse is
 turned_back : (a b : List ℕ) → slice_cmp nat_cmp a b ≡ Greater → slice_cmp nat_cmp b a ≡ Less
 turned_back a b is = nat_list_cmp_total.antisymm b a ∙ ap ordering_reverse is
 
--- where one name is below the one that is looked for, so are those before it
+-- where a name is below the one that is searched, all names before it are
 pub below_found : (width : ℕ) (bytes : List ℕ) (count middle : ℕ) (name : List ℕ) → HasNames width bytes count
     → middle < count
     → slice_cmp nat_cmp (name_at width bytes middle) name ≡ Less → (k : ℕ) → k < middle + 1
@@ -52,7 +52,7 @@ below_found width bytes count middle name has inside is k below =
           (rising_all (λ n. name_at width bytes n) count has.rising k middle less inside) is
     ]
 
--- where one name is above it, so are those after it
+-- where a name is above the one that is searched, all names after it are
 pub above_found : (width : ℕ) (bytes : List ℕ) (count middle : ℕ) (name : List ℕ) → HasNames width bytes count
     → slice_cmp nat_cmp (name_at width bytes middle) name ≡ Greater → (k : ℕ) → middle ≤ k → k < count
     → slice_cmp nat_cmp (name_at width bytes k) name ≡ Greater
@@ -69,7 +69,7 @@ above_found width bytes count middle name has is k from inside =
 pub found : (a b : List ℕ) → slice_cmp nat_cmp a b ≡ Equal → a ≡ b
 found a b is = (bytes_eq-Decides a b).0 (sym (is_eq-slice_cmp a b) ∙ ap is_eq is)
 
--- where all names are below or above the one that is looked for, none is it
+-- where each name is below or above the one that is searched, none is equal to it
 pub not_found : (width : ℕ) (bytes : List ℕ) (count low high : ℕ) (name : List ℕ) → high ≤ low
     → ((k : ℕ) → k < low → slice_cmp nat_cmp (name_at width bytes k) name ≡ Less)
     → ((k : ℕ) → high ≤ k → k < count → slice_cmp nat_cmp (name_at width bytes k) name ≡ Greater)

@@ -1,4 +1,4 @@
--- On an entry that is opened, and on all of its items.
+-- An entry that is opened, and all of its items.
 use Rattle.std.proofs.Common.{◌≡◌, ℕ, List, [], None, Result, Ok, Err, refl, sym, ap, ◌∙◌, subst}
 use Rattle.std.specs.Prelude.{IsOk}
 use Rattle.std.specs.Result.{result_unwrap_or}
@@ -16,7 +16,7 @@ use Rattle.deny_std_table.proofs.LayoutLemmas.{bind-ok}
 use Rattle.deny_std_table.proofs.CursorLemmas.{ok-is, coming-begin}
 use Rattle.deny_std_table.proofs.CursorSteps.{is-ok}
 
--- what a reading that holds answered
+-- the value of a reading that succeeded
 ok-of : {A : Type 0} (r : Result A ReplacementError) → IsOk r → (x : A) × (r ≡ Ok x)
 ok-of (Ok x) is = (x, refl)
 ok-of (Err e) is = cc
@@ -36,7 +36,7 @@ iter_all b counts at is =
     (left.0, left.1 ∙ ap (λ t. items_of (items_read t)) (sym all.1))
 
 -- An entry, part by part.
-pub record IsOpen (b : Bounds) (start : ℕ) (e : Entry) : Type 0 where
+record IsOpen (b : Bounds) (start : ℕ) (e : Entry) : Type 0 where
   pub name : Read TextSpan
   pub count : Read Counts
   pub all : Read Items

@@ -1,4 +1,4 @@
--- The bytes of version 2 that are written for what a table says are read as just that.
+-- The bytes of version 2 that are written for a table are read as what the table says.
 use Rattle.std.proofs.Common.{◌≡◌, ℕ, zero, suc, ◌+◌, ◌*◌, ◌%◌, ◌/◌, ◌<◌, ◌≤◌, List, [], ◌∷◌, ◌++◌, length, take, drop}
 use Rattle.std.proofs.Common.{map, Option, Some, None, refl, sym, ap, ◌∙◌, arith, subst, append_assoc, length-append}
 use Rattle.std.proofs.Common.{option_map}
@@ -20,8 +20,8 @@ use Rattle.deny_std_table.specs.Spelling.{replacement_text, group_text, items_te
 use Rattle.deny_std_table.specs.Spelling.{text_bytes, api_bytes, note_bytes, replacement_bytes, group_bytes}
 use Rattle.deny_std_table.specs.Spelling.{items_bytes, entry_bytes}
 
--- These bytes stand at an offset, not past the end, and the rest follows.
-pub record Stands (b : Bounds) (at : ℕ) (xs : List ℕ) : Type 0 where
+-- The bytes are at an offset, not past the end, and the rest follows them.
+pub record Holds (b : Bounds) (at : ℕ) (xs : List ℕ) : Type 0 where
   pub rest : List ℕ
   pub here : drop at b.bytes ≡ xs ++ rest
   pub inside : at + length xs ≤ b.stop
@@ -33,14 +33,14 @@ drop-both (suc n) m (x ∷ xs) =
     let more_of : suc n + m ≡ suc (n + m) = omega arith in
     ap (λ k. drop k (x ∷ xs)) more_of ∙ drop-both n m xs
 
-pub stands-first : (b : Bounds) (at : ℕ) (xs ys : List ℕ) → Stands b at (xs ++ ys) → Stands b at xs
-stands-first b at xs ys is =
+pub holds-first : (b : Bounds) (at : ℕ) (xs ys : List ℕ) → Holds b at (xs ++ ys) → Holds b at xs
+holds-first b at xs ys is =
     let all : length (xs ++ ys) ≡ length xs + length ys = length-append xs ys in
     let within = is.inside in
     record { rest = ys ++ is.rest; here = is.here ∙ append_assoc xs ys is.rest; inside = omega arith }
 
-pub stands-later : (b : Bounds) (at : ℕ) (xs ys : List ℕ) → Stands b at (xs ++ ys) → Stands b (at + length xs) ys
-stands-later b at xs ys is =
+pub holds-later : (b : Bounds) (at : ℕ) (xs ys : List ℕ) → Holds b at (xs ++ ys) → Holds b (at + length xs) ys
+holds-later b at xs ys is =
     let all : length (xs ++ ys) ≡ length xs + length ys = length-append xs ys in
     let within = is.inside in
     record {
@@ -56,13 +56,13 @@ index-drop zero (b ∷ bytes) x rest is = cc
 index-drop (suc at) [] x rest is = cc
 index-drop (suc at) (b ∷ bytes) x rest is = index-drop at bytes x rest is
 
--- a byte that stands there
-pub byte-there : (b : Bounds) (at x : ℕ) → Stands b at (x ∷ []) → IsByte b at x (at + 1)
+-- a byte is at its offset
+byte-there : (b : Bounds) (at x : ℕ) → Holds b at (x ∷ []) → IsByte b at x (at + 1)
 byte-there b at x is =
     let within = is.inside in
     record { inside = omega arith; is = sym (index-drop at b.bytes x is.rest is.here); after = refl }
 
--- A number that so many bytes can hold.
+-- a number that fits this many bytes
 abbrev pub Fits : ℕ → ℕ → Type 0
 Fits zero n = n ≡ 0
 Fits (suc width) n = Fits width (n / 256)
@@ -70,19 +70,19 @@ Fits (suc width) n = Fits width (n / 256)
 parts_join : (n low high : ℕ) → low ≡ n % 256 → high ≡ n / 256 → low + 256 * high ≡ n
 parts_join n low high l h = omega arith
 
--- a number that stands there
-pub number-there : (width : ℕ) (b : Bounds) (at n : ℕ) → Fits width n → Stands b at (number_bytes width n)
+-- a number is at its offset
+pub number-there : (width : ℕ) (b : Bounds) (at n : ℕ) → Fits width n → Holds b at (number_bytes width n)
     → number width b.bytes at ≡ n
 unfolding number
 number-there zero b at n fits is = sym fits
 number-there (suc width) b at n fits is =
     let low = index-drop at b.bytes (n % 256) (number_bytes width (n / 256) ++ is.rest) is.here in
     let high = number-there width b (at + 1) (n / 256) fits
-    (stands-later b at (n % 256 ∷ []) (number_bytes width (n / 256)) is) in
+    (holds-later b at (n % 256 ∷ []) (number_bytes width (n / 256)) is) in
     parts_join n (slice_index b.bytes at) (number width b.bytes (at + 1)) low high
 
--- One of a kind stands from an offset to another, and says this.
-pub record There {A T : Type 0} (IsOne : ℕ → A → ℕ → Type 0) (say : A → T) (at next : ℕ) (t : T) : Type 0 where
+-- A part is at an offset and says this, and `next` follows it.
+record There {A T : Type 0} (IsOne : ℕ → A → ℕ → Type 0) (say : A → T) (at next : ℕ) (t : T) : Type 0 where
   pub it : A
   pub layout : IsOne at it next
   pub says : say it ≡ t
@@ -96,14 +96,14 @@ pub record TextFits (text : List ℕ) : Type 0 where
   pub size : Fits 2 (length text)
   pub utf8 : IsUtf8 text
 
-pub text-there : (b : Bounds) (at : ℕ) (text : List ℕ) → b.width ≡ 2 → TextFits text → Stands b at (text_bytes text)
+text-there : (b : Bounds) (at : ℕ) (text : List ℕ) → b.width ≡ 2 → TextFits text → Holds b at (text_bytes text)
     → There (IsText b) (contents b.bytes) at (at + length (text_bytes text)) text
 text-there b at text wide fits is =
     let span : TextSpan = record { at = at + 2; size = length text } in
-    let later = stands-later b at (number_bytes 2 (length text)) text is in
+    let later = holds-later b at (number_bytes 2 (length text)) text is in
     let says : contents b.bytes span ≡ text = ap (take (length text)) later.here ∙ take-append_seam text later.rest in
     let size : length text ≡ number 2 b.bytes at =
-    sym (number-there 2 b at (length text) fits.size (stands-first b at (number_bytes 2 (length text)) text is)) in
+    sym (number-there 2 b at (length text) fits.size (holds-first b at (number_bytes 2 (length text)) text is)) in
     let within = is.inside in
     record {
       it = span;
@@ -121,13 +121,13 @@ pub record ApiFits (a : ApiText) : Type 0 where
   pub name : TextFits a.name
   pub url : TextFits a.url
 
-pub api-there : (b : Bounds) (at : ℕ) (a : ApiText) → b.width ≡ 2 → ApiFits a → Stands b at (api_bytes a)
+api-there : (b : Bounds) (at : ℕ) (a : ApiText) → b.width ≡ 2 → ApiFits a → Holds b at (api_bytes a)
     → There (IsApi b) (api_text b.bytes) at (at + length (api_bytes a)) a
 unfolding api_bytes
 api-there b at a wide fits is =
-    let first = text-there b at a.name wide fits.name (stands-first b at (text_bytes a.name) (text_bytes a.url) is) in
+    let first = text-there b at a.name wide fits.name (holds-first b at (text_bytes a.name) (text_bytes a.url) is) in
     let second = text-there b (at + length (text_bytes a.name)) a.url wide fits.url
-    (stands-later b at (text_bytes a.name) (text_bytes a.url) is) in
+    (holds-later b at (text_bytes a.name) (text_bytes a.url) is) in
     let all = length-append (text_bytes a.name) (text_bytes a.url) in
     there-to (IsApi b) (api_text b.bytes) at _ _ a (omega arith) (record {
       it = record { name = first.it; url = second.it };
@@ -144,14 +144,14 @@ pub record ReplacementFits (r : ReplacementText) : Type 0 where
   pub std : ApiFits r.std
   pub note : (n : List ℕ) → r.note ≡ Some n → TextFits n × (0 < length n)
 
--- A note stands there, and says this.
+-- A note is at an offset and says this.
 record NoteThere (b : Bounds) (at : ℕ) (note : Option (List ℕ)) : Type 0 where
   pub span : TextSpan
   pub layout : IsText b at span (at + length (note_bytes note))
   pub says : option_map (contents b.bytes) (nonempty_note span) ≡ note
 
 note-there : (b : Bounds) (at : ℕ) (note : Option (List ℕ)) → b.width ≡ 2
-    → ((n : List ℕ) → note ≡ Some n → TextFits n × (0 < length n)) → Stands b at (note_bytes note) → NoteThere b at note
+    → ((n : List ℕ) → note ≡ Some n → TextFits n × (0 < length n)) → Holds b at (note_bytes note) → NoteThere b at note
 note-there b at None wide fits is =
     let one = text-there b at [] wide (record { size = refl; utf8 = IsUtf8-nil }) is in
     record {
@@ -184,20 +184,20 @@ note-there b at (Some n) wide fits is =
         let not_none : (span.size == 0) ≡ false = grind (arith, nat_tests) in
         rw (not_none, says) refl
 
-pub replacement-there : (b : Bounds) (at : ℕ) (r : ReplacementText) → b.width ≡ 2 → ReplacementFits r
-    → Stands b at (replacement_bytes r)
+replacement-there : (b : Bounds) (at : ℕ) (r : ReplacementText) → b.width ≡ 2 → ReplacementFits r
+    → Holds b at (replacement_bytes r)
     → There (IsReplacement b) (replacement_text b.bytes) at (at + length (replacement_bytes r)) r
 unfolding replacement_bytes
 replacement-there b at r wide fits is =
     let after_krate = at + length (api_bytes r.krate) in
     let after_std = after_krate + length (api_bytes r.std) in
-    let others = stands-later b at (api_bytes r.krate) (api_bytes r.std ++ note_bytes r.note) is in
+    let others = holds-later b at (api_bytes r.krate) (api_bytes r.std ++ note_bytes r.note) is in
     let krate = api-there b at r.krate wide fits.krate
-    (stands-first b at (api_bytes r.krate) (api_bytes r.std ++ note_bytes r.note) is) in
+    (holds-first b at (api_bytes r.krate) (api_bytes r.std ++ note_bytes r.note) is) in
     let std = api-there b after_krate r.std wide fits.std
-    (stands-first b after_krate (api_bytes r.std) (note_bytes r.note) others) in
+    (holds-first b after_krate (api_bytes r.std) (note_bytes r.note) others) in
     let note = note-there b after_std r.note wide fits.note
-    (stands-later b after_krate (api_bytes r.std) (note_bytes r.note) others) in
+    (holds-later b after_krate (api_bytes r.std) (note_bytes r.note) others) in
     let all = length-append (api_bytes r.krate) (api_bytes r.std ++ note_bytes r.note) in
     let some = length-append (api_bytes r.std) (note_bytes r.note) in
     there-to (IsReplacement b) (replacement_text b.bytes) at _ _ r (omega arith) (record {
@@ -214,18 +214,18 @@ replacement-there b at r wide fits is =
       says = rw (krate.says, std.says, note.says) refl;
     })
 
--- several of a kind, one right after the other
-pub row-there : {A T : Type 0} (b : Bounds) (IsOne : ℕ → A → ℕ → Type 0) (say : A → T) (spell : T → List ℕ)
+-- the parts of a row, each right after the one before
+row-there : {A T : Type 0} (b : Bounds) (IsOne : ℕ → A → ℕ → Type 0) (say : A → T) (spell : T → List ℕ)
     (IsFit : T → Type 0)
-    → ((at : ℕ) (t : T) → IsFit t → Stands b at (spell t) → There IsOne say at (at + length (spell t)) t)
-    → (at : ℕ) (ts : List T) → AllByRecursion IsFit ts → Stands b at (flat_map spell ts)
+    → ((at : ℕ) (t : T) → IsFit t → Holds b at (spell t) → There IsOne say at (at + length (spell t)) t)
+    → (at : ℕ) (ts : List T) → AllByRecursion IsFit ts → Holds b at (flat_map spell ts)
     → There (IsRow IsOne) (map say) at (at + length (flat_map spell ts)) ts
 row-there b IsOne say spell IsFit one at [] fits is =
     there-to (IsRow IsOne) (map say) at at _ [] (omega arith) (record { it = []; layout = ended; says = refl })
 row-there b IsOne say spell IsFit one at (t ∷ ts) fits is =
-    let first = one at t fits.0 (stands-first b at (spell t) (flat_map spell ts) is) in
+    let first = one at t fits.0 (holds-first b at (spell t) (flat_map spell ts) is) in
     let others = row-there b IsOne say spell IsFit one (at + length (spell t)) ts fits.1
-    (stands-later b at (spell t) (flat_map spell ts) is) in
+    (holds-later b at (spell t) (flat_map spell ts) is) in
     let all = length-append (spell t) (flat_map spell ts) in
     there-to (IsRow IsOne) (map say) at _ _ (t ∷ ts) (omega arith) (record {
       it = first.it ∷ others.it;
@@ -237,20 +237,20 @@ pub record GroupFits (g : GroupText) : Type 0 where
   pub some : 0 < length g.replacements
   pub each : AllByRecursion ReplacementFits g.replacements
 
-pub group-there : (b : Bounds) (at : ℕ) (g : GroupText) → b.width ≡ 2 → GroupFits g → Stands b at (group_bytes g)
+group-there : (b : Bounds) (at : ℕ) (g : GroupText) → b.width ≡ 2 → GroupFits g → Holds b at (group_bytes g)
     → There (IsGroup b) (group_text b.bytes) at (at + length (group_bytes g)) g
 unfolding group_bytes
 group-there b at g wide fits is =
     let spelled = flat_map replacement_bytes g.replacements in
     let row = row-there b (IsReplacement b) (replacement_text b.bytes) replacement_bytes ReplacementFits
     (λ at r ok here. replacement-there b at r wide ok here) (at + 2) g.replacements fits.each
-    (stands-later b at (g.minor ∷ length g.replacements ∷ []) spelled is) in
+    (holds-later b at (g.minor ∷ length g.replacements ∷ []) spelled is) in
     let size : length row.it ≡ length g.replacements =
     sym (length-map row.it (replacement_text b.bytes)) ∙ ap length row.says in
-    let minor = byte-there b at g.minor (stands-first b at (g.minor ∷ []) (length g.replacements ∷ spelled) is) in
+    let minor = byte-there b at g.minor (holds-first b at (g.minor ∷ []) (length g.replacements ∷ spelled) is) in
     let count = byte-there b (at + 1) (length g.replacements)
-    (stands-first b (at + 1) (length g.replacements ∷ []) spelled
-    (stands-later b at (g.minor ∷ []) (length g.replacements ∷ spelled) is)) in
+    (holds-first b (at + 1) (length g.replacements ∷ []) spelled
+    (holds-later b at (g.minor ∷ []) (length g.replacements ∷ spelled) is)) in
     there-to (IsGroup b) (group_text b.bytes) at (at + 2 + length spelled) _ g (omega arith) (record {
       it = record { minor = g.minor; replacements = row.it };
       layout = record {
@@ -269,7 +269,7 @@ pub record ItemsFit (i : ItemsText) : Type 0 where
   pub unstable : AllByRecursion ReplacementFits i.unstable
   pub unavailable : AllByRecursion ApiFits i.unavailable
 
-pub items-there : (b : Bounds) (at : ℕ) (i : ItemsText) → b.width ≡ 2 → ItemsFit i → Stands b at (items_bytes i)
+items-there : (b : Bounds) (at : ℕ) (i : ItemsText) → b.width ≡ 2 → ItemsFit i → Holds b at (items_bytes i)
     → There (IsItems b) (items_text b.bytes) at (at + length (items_bytes i)) i
 unfolding items_bytes
 items-there b at i wide fits is =
@@ -279,17 +279,17 @@ items-there b at i wide fits is =
     let groups = flat_map group_bytes i.groups in
     let unstable = flat_map replacement_bytes i.unstable in
     let unavailable = flat_map api_bytes i.unavailable in
-    let rows = stands-later b at (one ∷ two ∷ three ∷ []) (groups ++ (unstable ++ unavailable)) is in
-    let later = stands-later b (at + 3) groups (unstable ++ unavailable) rows in
+    let rows = holds-later b at (one ∷ two ∷ three ∷ []) (groups ++ (unstable ++ unavailable)) is in
+    let later = holds-later b (at + 3) groups (unstable ++ unavailable) rows in
     let group_row = row-there b (IsGroup b) (group_text b.bytes) group_bytes GroupFits
     (λ at g ok here. group-there b at g wide ok here) (at + 3) i.groups fits.groups
-    (stands-first b (at + 3) groups (unstable ++ unavailable) rows) in
+    (holds-first b (at + 3) groups (unstable ++ unavailable) rows) in
     let unstable_row = row-there b (IsReplacement b) (replacement_text b.bytes) replacement_bytes ReplacementFits
     (λ at r ok here. replacement-there b at r wide ok here) (at + 3 + length groups) i.unstable fits.unstable
-    (stands-first b (at + 3 + length groups) unstable unavailable later) in
+    (holds-first b (at + 3 + length groups) unstable unavailable later) in
     let unavailable_row = row-there b (IsApi b) (api_text b.bytes) api_bytes ApiFits
     (λ at a ok here. api-there b at a wide ok here) (at + 3 + length groups + length unstable) i.unavailable
-    fits.unavailable (stands-later b (at + 3 + length groups) unstable unavailable later) in
+    fits.unavailable (holds-later b (at + 3 + length groups) unstable unavailable later) in
     let group_size : length group_row.it ≡ one = sym (length-map group_row.it (group_text b.bytes))
     ∙ ap length group_row.says in
     let unstable_size : length unstable_row.it ≡ two = sym (length-map unstable_row.it (replacement_text b.bytes))
@@ -297,11 +297,11 @@ items-there b at i wide fits is =
     let unavailable_size : length unavailable_row.it ≡ three = sym (length-map unavailable_row.it (api_text b.bytes))
     ∙ ap length unavailable_row.says in
     let all = groups ++ (unstable ++ unavailable) in
-    let second = stands-later b at (one ∷ []) (two ∷ three ∷ all) is in
-    let third = stands-later b (at + 1) (two ∷ []) (three ∷ all) second in
-    let first_byte = byte-there b at one (stands-first b at (one ∷ []) (two ∷ three ∷ all) is) in
-    let second_byte = byte-there b (at + 1) two (stands-first b (at + 1) (two ∷ []) (three ∷ all) second) in
-    let third_byte = byte-there b (at + 1 + 1) three (stands-first b (at + 1 + 1) (three ∷ []) all third) in
+    let second = holds-later b at (one ∷ []) (two ∷ three ∷ all) is in
+    let third = holds-later b (at + 1) (two ∷ []) (three ∷ all) second in
+    let first_byte = byte-there b at one (holds-first b at (one ∷ []) (two ∷ three ∷ all) is) in
+    let second_byte = byte-there b (at + 1) two (holds-first b (at + 1) (two ∷ []) (three ∷ all) second) in
+    let third_byte = byte-there b (at + 1 + 1) three (holds-first b (at + 1 + 1) (three ∷ []) all third) in
     let sizes = length-append groups (unstable ++ unavailable) in
     let later_sizes = length-append unstable unavailable in
     there-to (IsItems b) (items_text b.bytes) at (at + 3 + length groups + length unstable + length unavailable) _ i
@@ -327,20 +327,20 @@ pub record EntryFits (e : EntryText) : Type 0 where
   pub name : TextFits e.name
   pub items : ItemsFit e.items
 
--- An entry stands at an offset, and says this.
+-- An entry is at an offset and says this.
 pub record EntryThere (b : Bounds) (at : ℕ) (e : EntryText) : Type 0 where
   pub it : Entry
   pub layout : IsEntry b at it
   pub says : entry_text b.bytes it ≡ e
 
-pub entry-there : (b : Bounds) (at : ℕ) (e : EntryText) → b.width ≡ 2 → EntryFits e → Stands b at (entry_bytes e)
+pub entry-there : (b : Bounds) (at : ℕ) (e : EntryText) → b.width ≡ 2 → EntryFits e → Holds b at (entry_bytes e)
     → EntryThere b at e
 unfolding entry_bytes
 entry-there b at e wide fits is =
     let name = text-there b at e.name wide fits.name
-    (stands-first b at (text_bytes e.name) (items_bytes e.items) is) in
+    (holds-first b at (text_bytes e.name) (items_bytes e.items) is) in
     let items = items-there b (at + length (text_bytes e.name)) e.items wide fits.items
-    (stands-later b at (text_bytes e.name) (items_bytes e.items) is) in
+    (holds-later b at (text_bytes e.name) (items_bytes e.items) is) in
     record {
       it = record { name = name.it; items = items.it };
       layout = record {

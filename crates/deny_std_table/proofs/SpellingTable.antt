@@ -17,16 +17,16 @@ use Rattle.deny_std_table.specs.Table.{table}
 use Rattle.deny_std_table.specs.Spelling.{EntryText, entry_text, texts_of, number_bytes, text_bytes, items_bytes}
 use Rattle.deny_std_table.specs.Spelling.{entry_bytes, offset_bytes, table_bytes}
 use Rattle.deny_std_table.proofs.TableLaw.{IsAbove, entry-complete, header-complete, count-complete, true-is_offset}
-use Rattle.deny_std_table.proofs.SpellingLaw.{Stands, stands-first, stands-later, Fits, number-there, EntryFits}
+use Rattle.deny_std_table.proofs.SpellingLaw.{Holds, holds-first, holds-later, Fits, number-there, EntryFits}
 use Rattle.deny_std_table.proofs.SpellingLaw.{entry-there}
 
--- Each name is above the one before it.
+-- each name is above the one before it
 abbrev pub Rises : List EntryText → Type 0
 Rises [] = Unit {0}
 Rises (e ∷ []) = Unit {0}
 Rises (e ∷ f ∷ es) = (slice_cmp nat_cmp e.name f.name ≡ Less) × Rises (f ∷ es)
 
--- What can be written in version 2.
+-- The entries can be written in version 2.
 pub record TableFits (es : List EntryText) : Type 0 where
   pub some : 0 < length es
   pub each : AllByRecursion EntryFits es
@@ -36,7 +36,7 @@ pub record TableFits (es : List EntryText) : Type 0 where
 fits_four : (n : ℕ) → n < 4294967296 → Fits 4 n
 fits_four n small = omega arith
 
--- The name of the first of these is above the one before it, where there is one.
+-- the name of the first entry is above the one before it, if there is one
 FirstAbove : List ℕ → Option TextSpan → List EntryText → Type 0
 FirstAbove bytes before [] = Unit {0}
 FirstAbove bytes before (e ∷ es) =
@@ -54,11 +54,11 @@ rises_on : (e : EntryText) (es : List EntryText) → Rises (e ∷ es) → Rises 
 rises_on e [] rises = tt
 rises_on e (f ∷ es) rises = rises.1
 
--- Entries stand from one of that number on, to the end, and their offsets before them.
+-- The entries from this number on are at their offsets, up to the end, and the offsets are in the head.
 record Located (bytes : List ℕ) (count i at : ℕ) (es : List EntryText) : Type 0 where
   pub counted : i + length es ≡ count
-  pub offsets_stand : Stands (bounds 2 bytes (length bytes)) (8 + 4 * i) (offset_bytes at es)
-  pub entries_stand : Stands (bounds 2 bytes (length bytes)) at (flat_map entry_bytes es)
+  pub offsets_fit : Holds (bounds 2 bytes (length bytes)) (8 + 4 * i) (offset_bytes at es)
+  pub entries_hold : Holds (bounds 2 bytes (length bytes)) at (flat_map entry_bytes es)
   pub ends : at + length (flat_map entry_bytes es) ≡ length bytes
   pub after_head : 8 + 4 * count ≤ at
   pub after_before : 0 < i → start_of bytes (i - 1) < at
@@ -74,8 +74,8 @@ located_start bytes count i at e es is =
     let ends = is.ends in
     let small = is.short in
     number-there 4 (bounds 2 bytes (length bytes)) (8 + 4 * i) at (fits_four at (omega arith))
-    (stands-first (bounds 2 bytes (length bytes)) (8 + 4 * i) (number_bytes 4 at)
-    (offset_bytes (at + length (entry_bytes e)) es) is.offsets_stand)
+    (holds-first (bounds 2 bytes (length bytes)) (8 + 4 * i) (number_bytes 4 at)
+    (offset_bytes (at + length (entry_bytes e)) es) is.offsets_fit)
 
 located_on : (bytes : List ℕ) (count i at : ℕ) (e : EntryText) (es : List EntryText)
     → Located bytes count i at (e ∷ es) → Located bytes count (i + 1) (at + length (entry_bytes e)) es
@@ -91,9 +91,9 @@ located_on bytes count i at e es is =
     let before : i + 1 - 1 ≡ i = omega arith in
     record {
       counted = omega arith;
-      offsets_stand = subst (λ n. Stands b n (offset_bytes next es)) (omega arith)
-          (stands-later b (8 + 4 * i) (number_bytes 4 at) (offset_bytes next es) is.offsets_stand);
-      entries_stand = stands-later b at (entry_bytes e) (flat_map entry_bytes es) is.entries_stand;
+      offsets_fit = subst (λ n. Holds b n (offset_bytes next es)) (omega arith)
+          (holds-later b (8 + 4 * i) (number_bytes 4 at) (offset_bytes next es) is.offsets_fit);
+      entries_hold = holds-later b at (entry_bytes e) (flat_map entry_bytes es) is.entries_hold;
       ends = omega arith;
       after_head = omega arith;
       after_before = λ _. let here : start_of bytes (i + 1 - 1) ≡ at = ap (start_of bytes) before ∙ start in
@@ -146,12 +146,12 @@ unfolding FirstAbove
 entry_located bytes count i at before e es fits above is =
     let stop = located_stop bytes count i at e es is in
     let start = located_start bytes count i at e es is in
-    let here : Stands (bounds 2 bytes (stop_of bytes count i)) at (entry_bytes e) =
+    let here : Holds (bounds 2 bytes (stop_of bytes count i)) at (entry_bytes e) =
     record {
-      rest = (stands-first (bounds 2 bytes (length bytes)) at (entry_bytes e) (flat_map entry_bytes es)
-          is.entries_stand).rest;
-      here = (stands-first (bounds 2 bytes (length bytes)) at (entry_bytes e) (flat_map entry_bytes es)
-          is.entries_stand).here;
+      rest = (holds-first (bounds 2 bytes (length bytes)) at (entry_bytes e) (flat_map entry_bytes es)
+          is.entries_hold).rest;
+      here = (holds-first (bounds 2 bytes (length bytes)) at (entry_bytes e) (flat_map entry_bytes es)
+          is.entries_hold).here;
       inside = omega arith;
     } in
     let found = entry-there (bounds 2 bytes (stop_of bytes count i)) at e refl fits here in
@@ -194,19 +194,19 @@ unfolding FirstAbove
 first_above bytes [] = tt
 first_above bytes (e ∷ es) = λ p is. cc
 
--- What is read of a table's bytes.
+-- What is read of the bytes of a table.
 pub record TableRead (es : List EntryText) : Type 0 where
   pub them : List Entry
   pub read : table (table_bytes es) ≡ Ok them
   pub says : texts_of (table_bytes es) them ≡ es
 
--- the head of the bytes that are written
+-- ---- the head of the bytes that are written
 marked_so : (es : List EntryText) → take 4 (table_bytes es) ≡ 0xcd ∷ 0xcd ∷ 0xcd ∷ 2 ∷ []
 unfolding table_bytes
 marked_so es = refl
 
 record Parts (es : List EntryText) : Type 0 where
-  pub count_stands : Stands (bounds 2 (table_bytes es) (length (table_bytes es))) 4 (number_bytes 4 (length es))
+  pub count_holds : Holds (bounds 2 (table_bytes es) (length (table_bytes es))) 4 (number_bytes 4 (length es))
   pub located : Located (table_bytes es) (length es) 0 (8 + 4 * length es) es
 
 parts : (es : List EntryText) → length (table_bytes es) < 4294967296 → Parts es
@@ -217,19 +217,19 @@ parts es small =
     let at = 8 + 4 * length es in
     let count = number_bytes 4 (length es) in
     let body = flat_map entry_bytes es in
-    let all : Stands b 0 bytes = record { rest = []; here = sym (append-nil bytes); inside = omega arith } in
-    let behind_mark = stands-later b 0 (0xcd ∷ 0xcd ∷ 0xcd ∷ 2 ∷ []) (count ++ (offset_bytes at es ++ body)) all in
-    let behind_count = stands-later b 4 count (offset_bytes at es ++ body) behind_mark in
-    let behind_offsets = stands-later b 8 (offset_bytes at es) body behind_count in
+    let all : Holds b 0 bytes = record { rest = []; here = sym (append-nil bytes); inside = omega arith } in
+    let behind_mark = holds-later b 0 (0xcd ∷ 0xcd ∷ 0xcd ∷ 2 ∷ []) (count ++ (offset_bytes at es ++ body)) all in
+    let behind_count = holds-later b 4 count (offset_bytes at es ++ body) behind_mark in
+    let behind_offsets = holds-later b 8 (offset_bytes at es) body behind_count in
     let size = offset_size at es in
     let sizes = length-append (offset_bytes at es) body in
     let start : 8 + length (offset_bytes at es) ≡ at = omega arith in
     record {
-      count_stands = stands-first b 4 count (offset_bytes at es ++ body) behind_mark;
+      count_holds = holds-first b 4 count (offset_bytes at es ++ body) behind_mark;
       located = record {
         counted = omega arith;
-        offsets_stand = stands-first b 8 (offset_bytes at es) body behind_count;
-        entries_stand = subst (λ n. Stands b n body) start behind_offsets;
+        offsets_fit = holds-first b 8 (offset_bytes at es) body behind_count;
+        entries_hold = subst (λ n. Holds b n body) start behind_offsets;
         ends = omega arith;
         after_head = omega arith;
         after_before = λ some. absurd (omega (arith, some));
@@ -247,7 +247,7 @@ table_read es fits =
     let within = there.located.after_head in
     let ends = there.located.ends in
     let count : number 4 bytes 4 ≡ length es = number-there 4 (bounds 2 bytes (length bytes)) 4 (length es)
-    (fits_four (length es) (omega arith)) there.count_stands in
+    (fits_four (length es) (omega arith)) there.count_holds in
     let all = entries_read bytes (length es) 0 (8 + 4 * length es) None es fits.each fits.rises (first_above bytes es)
     there.located in
     record {

@@ -1,4 +1,4 @@
--- A table is what its reading answers, both ways.
+-- A table is exactly what its reading gives.
 use Rattle.std.proofs.Common.{◌≡◌, ℕ, zero, suc, ◌+◌, ◌-◌, ◌*◌, ◌<◌, ◌≤◌, ◌==◌, ◌&&◌, nat_lt, nat_le, Bool, true, false}
 use Rattle.std.proofs.Common.{◌⊎◌, inl, inr, if◌then◌else◌, List, [], ◌∷◌, length, take, Option, Some, None, Result, Ok}
 use Rattle.std.proofs.Common.{Err, slice_index, refl, sym, ap, ◌∙◌, arith, subst, ◌||◌, lit<, length-take}
@@ -10,12 +10,12 @@ use Rattle.std.proofs.lemmas.Bool.{and_parts, and_from, ltb-true, lt-ltb, eqb-tr
 use Rattle.std.proofs.Math.Bool.{and-false}
 use Rattle.std.proofs.lemmas.Bool.Decides.{nat_tests}
 use Rattle.std.proofs.lemmas.List.{get_or-take}
-use Rattle.deny_lists.proofs.Orders.{less_from_is_lt}
+use Rattle.deny_base_lists.proofs.Orders.{less_from_is_lt}
 use Rattle.deny_std_table.specs.declared.error.ReplacementError.{ReplacementError}
 use Rattle.deny_std_table.specs.declared.error.ReplacementError.TheVariants.{Bad}
 use Rattle.deny_std_table.specs.declared.spans.TextSpan.{TextSpan}
 use Rattle.deny_std_table.specs.Spans.{contents}
-use Rattle.deny_lists.specs.Reader.{◌>>=◌}
+use Rattle.deny_base_lists.specs.Reader.{◌>>=◌}
 use Rattle.deny_std_table.specs.Reading.{◌>>◌, number}
 use Rattle.deny_std_table.specs.Region.{Bounds, text, items}
 use Rattle.deny_std_table.specs.Head.{header, version, has_byte, count_of, start_of, is_offset, IsOffset, HasOffsets}
@@ -27,7 +27,7 @@ use Rattle.deny_std_table.proofs.TableLemmas.{offsets-all}
 use Rattle.deny_std_table.proofs.LayoutLemmas.{bind-ok, unless_bad-then, text-sound, text-complete, items-sound}
 use Rattle.deny_std_table.proofs.LayoutLemmas.{items-complete}
 
--- The name of an entry is above the one before it, where there is one.
+-- The name of an entry is above the one before it, if there is one.
 pub record IsAbove (bytes : List ℕ) (before : Option TextSpan) (name : TextSpan) : Type 0 where
   pub above : (b : TextSpan) → before ≡ Some b → slice_cmp nat_cmp (contents bytes b) (contents bytes name) ≡ Less
 
@@ -44,7 +44,7 @@ true-is_above : (bytes : List ℕ) (before : Option TextSpan) (name : TextSpan) 
 true-is_above bytes None name is = refl
 true-is_above bytes (Some a) name is = ap is_lt (is.above a refl)
 
-pub entry-sound : (b : Bounds) (before : Option TextSpan) (start : ℕ) (e : Entry) → entry b before start ≡ Ok e
+entry-sound : (b : Bounds) (before : Option TextSpan) (start : ℕ) (e : Entry) → entry b before start ≡ Ok e
     → IsEntry b start e × IsAbove b.bytes before e.name
 unfolding entry
 entry-sound b before start e is =
@@ -74,7 +74,7 @@ entry-complete b before start e is above =
       items-complete b is.after_name e.items is.next is.items,
     ) refl
 
--- Several entries, from one of that number on.
+-- The entries from this number on.
 pub record IsEntries (width : ℕ) (bytes : List ℕ) (count : ℕ) (before : Option TextSpan) (i : ℕ)
     (es : List Entry) : Type 0 where
   pub each : (k : ℕ) (e : Entry) → slice_get es k ≡ Some e
@@ -141,7 +141,7 @@ entries-tail width bytes count before i x xs all = record {
   rising = λ k e f is after. all.rising (suc k) e f is (get-suc x xs (k + 1) (suc k + 1) (omega arith) ∙ after);
 }
 
-pub entries-complete : (width : ℕ) (bytes : List ℕ) (count : ℕ) (before : Option TextSpan) (i : ℕ) (es : List Entry)
+entries-complete : (width : ℕ) (bytes : List ℕ) (count : ℕ) (before : Option TextSpan) (i : ℕ) (es : List Entry)
     → IsEntries width bytes count before i es → entries width bytes count before i (length es) ≡ Ok es
 unfolding entries
 entries-complete width bytes count before i [] all = refl
@@ -173,7 +173,7 @@ marked width (a ∷ b ∷ []) long p q r s = absurd (omega arith)
 marked width (a ∷ b ∷ c ∷ []) long p q r s = absurd (omega arith)
 marked width (a ∷ b ∷ c ∷ d ∷ rest) long p q r s = rw (p, q, r, s) refl
 
--- A version that is known stands in the fourth byte.
+-- The fourth byte is a known version.
 record IsVersion (bytes : List ℕ) (width : ℕ) : Type 0 where
   pub known : (width ≡ 1) ⊎ (width ≡ 2)
   pub long : 3 < length bytes
@@ -300,7 +300,7 @@ gathered width bytes count es known mark some number_is offsets_hold size all =
       rising = λ i e f at after. (counted.3.rising i e f at after).above e.name refl;
     }
 
--- what the reading answers is a table
+-- the entries that are read are those of a table
 pub table-sound : (bytes : List ℕ) (es : List Entry) → table bytes ≡ Ok es → IsTable bytes es
 unfolding table
 table-sound bytes es is =
@@ -312,7 +312,7 @@ table-sound bytes es is =
     let all = entries-sound head.0 bytes number_of.0 None 0 number_of.0 es offsets_hold.1 in
     gathered head.0 bytes number_of.0 es mark.0 mark.1 count.0 count.1 offsets_hold.0 all.0 all.1
 
--- a table is what the reading answers
+-- the entries of a table are read
 pub table-complete : (bytes : List ℕ) (es : List Entry) → IsTable bytes es → table bytes ≡ Ok es
 unfolding table
 table-complete bytes es is =

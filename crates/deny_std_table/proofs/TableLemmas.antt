@@ -1,4 +1,4 @@
--- On the head, the offsets and the entries of a table.
+-- The head, the offsets and the entries of a table.
 use Rattle.std.proofs.Common.{◌≡◌, ℕ, zero, suc, ◌+◌, ◌-◌, ◌*◌, ◌<◌, ◌≤◌, ◌==◌, ◌||◌, ◌&&◌, nat_lt, nat_le, Bool, true}
 use Rattle.std.proofs.Common.{false, List, [], ◌∷◌, length, Option, Some, None, Result, Ok, Err, refl, sym, ap, ◌∙◌}
 use Rattle.std.proofs.Common.{arith, subst, inl, inr}
@@ -8,7 +8,7 @@ use Rattle.std.proofs.lemmas.Bool.{ltb-true}
 use Rattle.std.proofs.lemmas.Bool.Decides.{nat_tests}
 use Rattle.deny_std_table.specs.declared.error.ReplacementError.{ReplacementError}
 use Rattle.deny_std_table.specs.declared.spans.TextSpan.{TextSpan}
-use Rattle.deny_lists.specs.Reader.{◌>>=◌}
+use Rattle.deny_base_lists.specs.Reader.{◌>>=◌}
 use Rattle.deny_std_table.specs.Reading.{◌>>◌, unless_bad}
 use Rattle.deny_std_table.specs.private.Reading.{done_of}
 use Rattle.deny_std_table.specs.Region.{bounds}
@@ -18,7 +18,7 @@ use Rattle.deny_std_table.specs.private.Entries.{name_of}
 use Rattle.deny_std_table.specs.Table.{table, IsRead}
 
 -- a test that breaks nothing holds
-pub unless_bad-ok : (test : Bool) (offset : ℕ) → unless_bad test offset ≡ Ok tt → test ≡ true
+unless_bad-ok : (test : Bool) (offset : ℕ) → unless_bad test offset ≡ Ok tt → test ≡ true
 unless_bad-ok true offset is = refl
 unless_bad-ok false offset is = cc
 
@@ -41,13 +41,13 @@ offset_facts whole_end size head start before i is =
     let below : nat_lt start size ≡ true = parts.3 in
     (grind (arith, nat_tests), grind (arith, nat_tests), λ some. grind (arith, nat_tests), ltb-true start size below)
 
-pub is_offset-true : (bytes : List ℕ) (count i : ℕ) → is_offset bytes count i ≡ true → IsOffset bytes count i
+is_offset-true : (bytes : List ℕ) (count i : ℕ) → is_offset bytes count i ≡ true → IsOffset bytes count i
 is_offset-true bytes count i is =
     let facts = offset_facts (8 + 4 * i + 4) (length bytes) (8 + 4 * count) (start_of bytes i) (start_of bytes (i - 1))
     i is in
     record { whole = facts.0; after_head = facts.1; rises = facts.2; below = facts.3 }
 
--- one offset holds, and the others come next
+-- one offset passes, and the others follow
 pub offsets-more : (bytes : List ℕ) (count i left now : ℕ) → left + 1 ≡ now
     → unless_bad (is_offset bytes count i) (8 + 4 * i) ≡ Ok tt
     → offsets bytes count i now ≡ offsets bytes count (i + 1) left
@@ -75,8 +75,8 @@ first_offset : (bytes : List ℕ) (count i left : ℕ) (r : Result (Unit {0}) Re
 first_offset bytes count i left (Ok tt) is = (refl, is)
 first_offset bytes count i left (Err e) is = cc
 
--- each of the offsets that were tested is one
-pub offsets-ok : (bytes : List ℕ) (count i left : ℕ) → offsets bytes count i left ≡ Ok tt
+-- each of the offsets that were checked passes
+offsets-ok : (bytes : List ℕ) (count i left : ℕ) → offsets bytes count i left ≡ Ok tt
     → (k : ℕ) → i ≤ k → k < i + left → IsOffset bytes count k
 unfolding offsets
 offsets-ok bytes count i zero is k from to = absurd (omega arith)
@@ -125,7 +125,7 @@ entries-break width bytes count before i left now e is broken =
     (done_entries (entry (bounds_of width bytes count i) before (start_of bytes i)) e
     (λ first. entries width bytes count (Some first.name) (i + 1) left) broken)
 
--- an entry holds, and the others come next
+-- an entry is read, and the others follow
 pub entries-more : (width : ℕ) (bytes : List ℕ) (count : ℕ) (before : Option TextSpan) (i left now : ℕ)
     (name : TextSpan)
     → left + 1 ≡ now → name_of (entry (bounds_of width bytes count i) before (start_of bytes i)) ≡ Ok name
@@ -144,7 +144,7 @@ unfolding entries
 entries-none width bytes count before i left is =
     subst (λ n. done_of (entries width bytes count before i n) ≡ Ok tt) (sym is) refl
 
--- what was checked in a region is the entry there
+-- the entry that was checked is the one in its region
 pub name_of-region : (width of_width : ℕ) (bytes of_region : List ℕ) (count i stop at : ℕ) (before : Option TextSpan)
     (r : Result TextSpan ReplacementError) → of_width ≡ width → of_region ≡ bytes → stop ≡ stop_of bytes count i
     → at ≡ start_of bytes i → r ≡ name_of (entry (bounds of_width of_region stop) before at)
@@ -152,14 +152,14 @@ pub name_of-region : (width of_width : ℕ) (bytes of_region : List ℕ) (count 
 name_of-region width of_width bytes of_region count i stop at before r wide same ends begins is =
     rw (← begins, ← ends, ← same, ← wide) (sym is)
 
--- a span that was read in a region is inside the bytes
+-- a span that was read in a region lies in the bytes
 pub span_in-region : (bytes of_region : List ℕ) (read here : TextSpan) → of_region ≡ bytes
     → read.at + read.size ≤ length of_region → Some read ≡ Some here → here.at + here.size ≤ length bytes
 span_in-region bytes of_region read here same inside is =
     let one : read ≡ here = cc in
     rw (← same, ← one) inside
 
--- the steps of a table, each after those before it hold
+-- the steps of a table, each where those before it succeed
 pub table-header : (bytes : List ℕ) (e : ReplacementError) → header bytes ≡ Err e → table bytes ≡ Err e
 unfolding table
 table-header bytes e h = rw h refl
@@ -175,7 +175,7 @@ pub table-offsets : (width : ℕ) (bytes : List ℕ) (count : ℕ) (e : Replacem
 unfolding table
 table-offsets width bytes count e h c o = rw (h, c, o) refl
 
-pub table-entries : (width : ℕ) (bytes : List ℕ) (count : ℕ) → header bytes ≡ Ok width → count_of bytes ≡ Ok count
+table-entries : (width : ℕ) (bytes : List ℕ) (count : ℕ) → header bytes ≡ Ok width → count_of bytes ≡ Ok count
     → offsets bytes count 0 count ≡ Ok tt → table bytes ≡ entries width bytes count None 0 count
 unfolding table
 table-entries width bytes count h c o = rw (h, c, o) refl

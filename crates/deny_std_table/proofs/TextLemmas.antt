@@ -1,4 +1,4 @@
--- What items say is what is handed out of them.
+-- The texts of items are those that are returned.
 use Rattle.std.proofs.Common.{◌≡◌, ◌++◌, ℕ, List, [], ◌∷◌, Option, None, Some, map, refl, sym, ap, ◌∙◌, append_assoc}
 use Rattle.std.specs.Prelude.{MatchOption, flat_map}
 use Rattle.std.proofs.lemmas.List.{map-append}
@@ -38,7 +38,7 @@ item-same bytes (spans.Unstable at) (item.Unavailable api) is = absurd is
 item-same bytes (spans.Unavailable at) (item.Stable r since) is = absurd is
 item-same bytes (spans.Unavailable at) (item.Unstable r) is = absurd is
 
--- the next one of those that are left
+-- the next one of the items that are left
 pub next-given : (old new : ItemsLeft) (next : Option ReplacementItem) → new.bytes ≡ old.bytes
     → MatchOption next ((old.items ≡ []) × (new.items ≡ []))
     (λ i. (at : ItemSpans) × (old.items ≡ at ∷ new.items) × IsItemAt old.bytes at i)

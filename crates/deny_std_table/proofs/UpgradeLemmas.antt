@@ -1,4 +1,4 @@
--- A table is written entry by entry: to one draft the head and the offsets, to another the entries.
+-- A table is written entry by entry: the head and the offsets to one draft, the entries to another.
 use Rattle.std.proofs.Common.{◌≡◌, ℕ, ◌+◌, ◌*◌, ◌<◌, ◌≤◌, List, [], ◌∷◌, ◌++◌, length, take, drop, Some, None, Ok, sym}
 use Rattle.std.proofs.Common.{ap, ◌∙◌, arith, subst, append_assoc, append-nil, length-append}
 use Rattle.std.specs.Prelude.{flat_map, option_map}
@@ -7,7 +7,7 @@ use Rattle.std.proofs.lemmas.List.{length-map, take_all}
 use Rattle.std.proofs.lemmas.Grind.{flat_map-append}
 use Rattle.std.proofs.lemmas.List.{take-append-drop}
 use Rattle.std.proofs.lemmas.Option.{slice_get-map}
-use Rattle.deny_lists.proofs.Indices.{take-next}
+use Rattle.deny_base_lists.proofs.Indices.{take-next}
 use Rattle.deny_std_table.specs.declared.draft.Draft.{Draft}
 use Rattle.deny_std_table.specs.Head.{start_of}
 use Rattle.deny_std_table.specs.Entries.{Entry, stop_of, entry}
@@ -19,10 +19,10 @@ use Rattle.deny_std_table.specs.private.Draft.{IsDraft, Writes}
 use Rattle.deny_std_table.proofs.EntryLemmas.{named, all-entries, opened}
 
 -- the mark, the version and the number of entries
-abbrev pub head_bytes : ℕ → List ℕ
+abbrev head_bytes : ℕ → List ℕ
 head_bytes count = (0xcd ∷ 0xcd ∷ 0xcd ∷ 2 ∷ []) ++ number_bytes 4 count
 
--- So many entries were written, and their offsets.
+-- This many entries were written, and their offsets.
 pub record CopiedSoFar (es : List EntryText) (i : ℕ) (start later : Draft) : Type 0 where
   pub head : IsDraft start (head_bytes (length es) ++ offset_bytes (8 + 4 * length es) (take i es))
   pub body : IsDraft later (flat_map entry_bytes (take i es))
@@ -77,7 +77,7 @@ copied-more es count i e head body new_head new_body size at short head_writes b
       body = subst (IsDraft new_body) all (body_writes.adds _ is.body);
     }
 
--- the whole of the bytes, where so many entries were written
+-- the length of all bytes, where this many entries were written
 whole-size : (es : List EntryText) (i : ℕ) → length (flat_map entry_bytes (take i es)) ≤ length (table_bytes es)
 unfolding table_bytes
 whole-size es i =
@@ -100,7 +100,7 @@ copied-long es i head body is many =
     let size = whole-size es i in
     omega arith
 
-pub joined-table : (es : List EntryText)
+joined-table : (es : List EntryText)
     → (head_bytes (length es) ++ offset_bytes (8 + 4 * length es) es) ++ flat_map entry_bytes es ≡ table_bytes es
 unfolding table_bytes
 joined-table es =
@@ -127,7 +127,7 @@ copied-all es i head body end is = record {
   whole = joined-table es;
 }
 
--- what the entries say that were read
+-- the texts of the entries that were read
 abbrev pub read_texts : ℕ → List ℕ → ℕ → List EntryText
 read_texts width bytes count = texts_of bytes (read_entries width bytes count)
 
@@ -136,7 +136,7 @@ pub texts-size : (width : ℕ) (bytes : List ℕ) (count : ℕ) → IsRead width
 texts-size width bytes count is = length-map (read_entries width bytes count) (entry_text bytes)
     ∙ (all-entries width bytes count is).0
 
--- The entry of one number, in its region.
+-- The entry with a number, in its region.
 pub record EntryRead (width : ℕ) (bytes : List ℕ) (count i of_width : ℕ) (of_region : List ℕ)
     (stop start : ℕ) : Type 0 where
   pub e : Entry

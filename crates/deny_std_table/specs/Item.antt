@@ -1,4 +1,4 @@
--- The items of an entry, and the texts of one that is handed out.
+-- The items of an entry, and the texts of an item that is returned.
 use Rattle.std.specs.Prelude.{◌≡◌, ℕ, List, ◌++◌, map, flat_map, option_map, option_copied}
 use Rattle.deny_std_table.specs.declared.item.Api.{Api}
 use Rattle.deny_std_table.specs.declared.item.ApiReplacement.{ApiReplacement}
@@ -19,18 +19,18 @@ group_items group = map (λ replacement. Stable replacement group.minor) group.r
 abbrev pub items_of : Items → List ItemSpans
 items_of items = flat_map group_items items.groups ++ map Unstable items.unstable ++ map Unavailable items.unavailable
 
--- An API has the texts that stand in its spans.
+-- An API has the texts of its spans.
 pub record IsApiAt (bytes : List ℕ) (spans : ApiSpans) (api : Api) : Type 0 where
   pub name : api.name.now ≡ contents bytes spans.name
   pub url : api.url.now ≡ contents bytes spans.url
 
--- So has a replacement.
+-- A replacement has the texts of its spans.
 pub record IsReplacementAt (bytes : List ℕ) (spans : ReplacementSpans) (replacement : ApiReplacement) : Type 0 where
   pub krate : IsApiAt bytes spans.krate replacement.krate
   pub std : IsApiAt bytes spans.std replacement.std
   pub note : option_copied replacement.note ≡ option_map (contents bytes) spans.note
 
--- So has an item, which is of the same kind.
+-- An item is of the kind of its spans, and has their texts.
 abbrev pub IsItemAt : List ℕ → ItemSpans → ReplacementItem → Type 0
 IsItemAt bytes (Stable spans minor) (item.Stable replacement since) = IsReplacementAt bytes spans replacement
     × (since ≡ minor)

@@ -1,4 +1,4 @@
--- What a table is: which bytes spell which entries, with no word on the order in which they are tested.
+-- The layout of a table: which bytes spell which entries, apart from the order in which they are checked.
 use Rattle.std.specs.Prelude.{◌≡◌, ◌⊎◌, ℕ, ◌+◌, ◌<◌, ◌≤◌, List, [], ◌∷◌, length, take, Some, slice_index, slice_get}
 use Rattle.std.specs.Prelude.{IsUtf8}
 use Rattle.std.specs.Cmp.Lexicographic.{slice_cmp}
@@ -13,7 +13,7 @@ use Rattle.deny_std_table.specs.Region.{Bounds, Group, Items, nonempty_note}
 use Rattle.deny_std_table.specs.Head.{HasOffsets, start_of}
 use Rattle.deny_std_table.specs.Entries.{Entry, bounds_of}
 
--- At one offset stands a byte, and another offset comes after it.
+-- A byte is at an offset, and `next` is the offset after it.
 pub record IsByte (b : Bounds) (at value next : ℕ) : Type 0 where
   pub inside : at < b.stop
   pub is : value ≡ slice_index b.bytes at
@@ -43,13 +43,13 @@ pub record IsReplacement (b : Bounds) (at : ℕ) (spans : ReplacementSpans) (nex
   pub note_text : IsText b after_std note_span next
   pub note : spans.note ≡ nonempty_note note_span
 
--- Several of a kind, one right after the other.
+-- parts of one kind, each right after the one before
 pub data IsRow {A : Type 0} (IsOne : ℕ → A → ℕ → Type 0) : ℕ → List A → ℕ → Type 0 where
   ended : {at : ℕ} → IsRow IsOne at [] at
   more : {at between next : ℕ} {x : A} {xs : List A} → IsOne at x between → IsRow IsOne between xs next
       → IsRow IsOne at (x ∷ xs) next
 
--- A group: the minor version, the number of its replacements, which is not 0, and these.
+-- A group: the minor version, the number of its replacements, which is not 0, and the replacements.
 pub record IsGroup (b : Bounds) (at : ℕ) (group : Group) (next : ℕ) : Type 0 where
   pub after_minor : ℕ
   pub after_count : ℕ
@@ -58,7 +58,7 @@ pub record IsGroup (b : Bounds) (at : ℕ) (group : Group) (next : ℕ) : Type 0
   pub some : 0 < length group.replacements
   pub replacements : IsRow (IsReplacement b) after_count group.replacements next
 
--- An entry's items: the numbers of groups, unstable and unavailable items, and these.
+-- The items of an entry: the numbers of groups, unstable and unavailable items, and the items.
 pub record IsItems (b : Bounds) (at : ℕ) (items : Items) (next : ℕ) : Type 0 where
   pub after_groups : ℕ
   pub after_unstable : ℕ
@@ -72,16 +72,15 @@ pub record IsItems (b : Bounds) (at : ℕ) (items : Items) (next : ℕ) : Type 0
   pub unstable : IsRow (IsReplacement b) unstable_at items.unstable unavailable_at
   pub unavailable : IsRow (IsApi b) unavailable_at items.unavailable next
 
--- An entry: a name, then the items. What follows the last one is not looked at.
+-- An entry: a name, then the items. The bytes after the last one are ignored.
 pub record IsEntry (b : Bounds) (at : ℕ) (entry : Entry) : Type 0 where
   pub after_name : ℕ
   pub next : ℕ
   pub name : IsText b at entry.name after_name
   pub items : IsItems b after_name entry.items next
 
--- A table: its mark and its version, 1 or 2, which is how many bytes the length of a text has; the number of
--- its entries, their offsets, and each entry in the bytes from its offset to the next one. The names rise in
--- byte order.
+-- A table: its mark and its version, 1 or 2, which is the number of bytes of the length of a text; the number of its
+-- entries, their offsets, and each entry in the bytes from its offset to the next one. The names ascend in byte order.
 pub record IsTable (bytes : List ℕ) (entries : List Entry) : Type 0 where
   pub width : ℕ
   pub known : (width ≡ 1) ⊎ (width ≡ 2)

@@ -1,5 +1,5 @@
--- An entry's bytes, from its name to its last item, in the order in which they are read. The first break ends
--- the reading: a text breaks at its length, a missing byte at the entry's end, a number that is 0 at its offset.
+-- The bytes of an entry, from its name to its last item, in the order in which they are read. The first break ends the
+-- reading: a text breaks at its length, a missing byte at the end of the entry, a number that is 0 at its offset.
 use Rattle.std.specs.Prelude.{ℕ, ◌+◌, ◌==◌, ◌&&◌, nat_lt, nat_le, List, Option, Some, None, Result, Ok, Err}
 use Rattle.std.specs.Prelude.{slice_index, if◌then◌else◌}
 use Rattle.std.specs.Str.{is_utf8}
@@ -12,16 +12,16 @@ use Rattle.deny_std_table.specs.declared.spans.Counts.{Counts}
 use Rattle.deny_std_table.specs.declared.spans.GroupHead.{GroupHead}
 use Rattle.deny_std_table.specs.declared.spans.Read.{Read}
 use Rattle.deny_std_table.specs.Spans.{contents}
-use Rattle.deny_lists.specs.Reader.{◌>>=◌}
+use Rattle.deny_base_lists.specs.Reader.{◌>>=◌}
 use Rattle.deny_std_table.specs.Reading.{◌>>◌, unless_bad, read, number, many}
 
--- The bytes of a table, the offset where the entry at hand ends, and how many bytes a text's length has.
+-- The bytes of a table, the offset where the entry ends, and the number of bytes of the length of a text.
 pub record Bounds : Type 0 where
   pub bytes : List ℕ
   pub width : ℕ
   pub stop : ℕ
 
--- what is known of a region
+-- the bounds of a region
 abbrev pub bounds : ℕ → List ℕ → ℕ → Bounds
 bounds width bytes stop = record { bytes = bytes; width = width; stop = stop }
 
@@ -29,7 +29,7 @@ bounds width bytes stop = record { bytes = bytes; width = width; stop = stop }
 unfoldable pub byte : Bounds → ℕ → Result (Read ℕ) ReplacementError
 byte b at = if nat_lt at b.stop then Ok (read (slice_index b.bytes at) (at + 1)) else Err (Bad b.stop)
 
--- the span of the text whose length stands at an offset
+-- the span of the text whose length is at an offset
 abbrev pub text_span : Bounds → ℕ → TextSpan
 text_span b at = record { at = at + b.width; size = number b.width b.bytes at }
 
@@ -48,7 +48,7 @@ api b at = do
   url ← text b name.next
   Ok (read (record { name = name.value; url = url.value }) url.next)
 
--- an empty note is none
+-- the note of a replacement, which is none where it is empty
 abbrev pub nonempty_note : TextSpan → Option TextSpan
 nonempty_note span = if span.size == 0 then None else Some span
 
@@ -89,13 +89,13 @@ counts b at = do
   Ok (read (record { groups = groups.value; unstable = unstable.value; unavailable = unavailable.value })
       unavailable.next)
 
--- All that an entry says of its crate.
+-- All items of an entry.
 pub record Items : Type 0 where
   pub groups : List Group
   pub unstable : List ReplacementSpans
   pub unavailable : List ApiSpans
 
--- so many groups, unstable and unavailable items; what follows the last one is not looked at
+-- this many groups, unstable and unavailable items; the bytes after the last one are ignored
 unfoldable pub counted_items : Bounds → Counts → ℕ → Result (Read Items) ReplacementError
 counted_items b count at = do
   groups ← many (group b) count.groups at

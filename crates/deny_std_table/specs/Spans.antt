@@ -1,6 +1,6 @@
 use Rattle.std.specs.Prelude.{ℕ, List, take, drop}
 use Rattle.deny_std_table.specs.declared.spans.TextSpan.{TextSpan}
 
--- the bytes that stand in a span
+-- the bytes of a span
 abbrev pub contents : List ℕ → TextSpan → List ℕ
 contents bytes span = take span.size (drop span.at bytes)

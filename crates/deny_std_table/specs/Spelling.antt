@@ -1,4 +1,4 @@
--- What a table says, text by text, and the bytes of version 2 that say so, in which nothing is ignored.
+-- The texts of a table, and the bytes of version 2 that spell them, none of which is ignored.
 use Rattle.std.specs.Prelude.{◌≡◌, ℕ, zero, suc, ◌+◌, ◌*◌, ◌%◌, ◌/◌, List, [], ◌∷◌, ◌++◌, Option, Some, None, Ok}
 use Rattle.std.specs.Prelude.{length, map, flat_map, option_map}
 use Rattle.deny_std_table.specs.declared.spans.ApiSpans.{ApiSpans}
@@ -30,7 +30,7 @@ pub record EntryText : Type 0 where
   pub name : List ℕ
   pub items : ItemsText
 
--- the text of each span, in the same order and of the same kind
+-- the texts of an API, a replacement, a group, items and an entry, from their spans
 abbrev pub api_text : List ℕ → ApiSpans → ApiText
 api_text bytes a = record { name = contents bytes a.name; url = contents bytes a.url }
 
@@ -54,11 +54,11 @@ items_text bytes i = record {
 abbrev pub entry_text : List ℕ → Entry → EntryText
 entry_text bytes e = record { name = contents bytes e.name; items = items_text bytes e.items }
 
--- what the entries over these bytes say
+-- the texts of the entries in these bytes
 abbrev pub texts_of : List ℕ → List Entry → List EntryText
 texts_of bytes es = map (entry_text bytes) es
 
--- a number in so many bytes, little endian
+-- a number in this many bytes, little endian
 abbrev pub number_bytes : ℕ → ℕ → List ℕ
 number_bytes zero n = []
 number_bytes (suc width) n = n % 256 ∷ number_bytes width (n / 256)
@@ -96,11 +96,11 @@ unfoldable pub table_bytes : List EntryText → List ℕ
 table_bytes es = (0xcd ∷ 0xcd ∷ 0xcd ∷ 2 ∷ []) ++ (number_bytes 4 (length es)
     ++ (offset_bytes (8 + 4 * length es) es ++ flat_map entry_bytes es))
 
--- the bytes of version 2 that say what a table says
+-- the bytes of version 2 for a table
 abbrev pub upgraded : Table → List ℕ
 upgraded t = table_bytes (texts_of t.bytes t.entries)
 
--- These bytes are a table that says the same: names, numbers and items in the same order, each text byte for byte.
+-- The bytes are a table that says the same: names, numbers and items in the same order, each text byte for byte.
 pub record SaysTheSame (t : Table) (bytes : List ℕ) : Type 0 where
   pub entries : List Entry
   pub read : table bytes ≡ Ok entries

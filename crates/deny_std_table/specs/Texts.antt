@@ -1,4 +1,4 @@
--- What items say, as they stand in a table and as they are handed out.
+-- The texts of items, in a table and as they are returned.
 use Rattle.std.specs.Prelude.{◌++◌, ℕ, List, flat_map, map, option_copied}
 use Rattle.deny_std_table.specs.declared.item.Api.{Api}
 use Rattle.deny_std_table.specs.declared.item.ApiReplacement.{ApiReplacement}
@@ -14,13 +14,13 @@ pub data ItemText : Type 0 where
   Unstable : ReplacementText → ItemText
   Unavailable : ApiText → ItemText
 
--- of an item that stands in its spans
+-- the texts of an item in the bytes of a table
 abbrev pub item_text : List ℕ → ItemSpans → ItemText
 item_text bytes (spans.Stable r minor) = Stable (replacement_text bytes r) minor
 item_text bytes (spans.Unstable r) = Unstable (replacement_text bytes r)
 item_text bytes (spans.Unavailable api) = Unavailable (api_text bytes api)
 
--- of one that is handed out
+-- the texts of an API, a replacement and an item that are returned
 abbrev pub api_given : Api → ApiText
 api_given api = record { name = api.name.now; url = api.url.now }
 
@@ -32,7 +32,7 @@ item_given (item.Stable r minor) = Stable (replacement_given r) minor
 item_given (item.Unstable r) = Unstable (replacement_given r)
 item_given (item.Unavailable api) = Unavailable (api_given api)
 
--- of those that are left, and of all
+-- the texts of the items that are left
 abbrev pub texts_left : ItemsLeft → List ItemText
 texts_left left = map (item_text left.bytes) left.items
 

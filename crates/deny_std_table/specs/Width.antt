@@ -1,4 +1,4 @@
--- How many bytes the length of a text has.
+-- The number of bytes of the length of a text.
 use Rattle.std.specs.Prelude.{ℕ}
 use Rattle.deny_std_table.specs.declared.width.Width.{Width}
 use Rattle.deny_std_table.specs.declared.width.Width.TheVariants.{One, Two}

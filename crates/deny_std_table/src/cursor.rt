@@ -7,7 +7,7 @@ ghost use Rattle.deny_std_table.specs.private.Cursor.{GivesItem, Ends};
 use crate::region::Region;
 use crate::spans::{Counts, ItemSpans};
 
-/// What is still to come of an entry: first what is left of the group at hand, which is stable since
+/// The items of an entry that are left: first those of the current group, which are stable since
 /// its minor version, then as many groups and other items as the counts say.
 #[derive(Clone, Copy)]
 pub(crate) struct Cursor<'d> {
@@ -19,7 +19,7 @@ pub(crate) struct Cursor<'d> {
 }
 
 impl<'d> Cursor<'d> {
-    /// The next replacement of the group at hand.
+    /// The next replacement of the current group.
     fn next_stable(&mut self) -> ItemSpans
         requires some { 0 < self.old.stable }
         requires reads { coming_of self.old ≡ Ok (left_of self.old) }
@@ -65,7 +65,7 @@ impl<'d> Cursor<'d> {
         ItemSpans::Unavailable { api: read.value }
     }
 
-    /// Goes on to the next group.
+    /// Makes the next group the current one.
     fn begin_group(&mut self)
         requires stable { self.old.stable ≡ 0 }
         requires some { 0 < self.old.counts.groups }
@@ -81,7 +81,7 @@ impl<'d> Cursor<'d> {
         self.counts.groups -= 1;
     }
 
-    /// Goes on to the next group where the one at hand has ended.
+    /// Makes the next group the current one where the current one has ended.
     fn settle(&mut self)
         requires { coming_of self.old ≡ Ok (left_of self.old) }
         ensures same { self.new.region ≡ self.old.region }
@@ -93,7 +93,7 @@ impl<'d> Cursor<'d> {
         }
     }
 
-    /// The next item, with no group ahead where none is at hand.
+    /// The next item, where no group follows an ended one.
     fn next_settled(&mut self) -> Option<ItemSpans>
         requires settled { self.old.stable ≡ 0 → self.old.counts.groups ≡ 0 }
         requires reads { coming_of self.old ≡ Ok (left_of self.old) }

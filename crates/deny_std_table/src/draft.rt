@@ -1,5 +1,5 @@
-//! Bytes that are being written. All are counted as far as the limit, and kept as long as there is memory, so
-//! that bytes that are too long are known as such with little memory.
+//! Bytes that are being written. All are counted up to the limit, and kept as long as there is memory, so that
+//! bytes that are too long are known as such with little memory.
 
 ghost use Rattle.std.specs.Prelude.{◌≡◌, ◌≤◌, ◌<◌, ◌++◌, ◌↔◌, ℕ, nat_le, List, [], ◌∷◌, length, Err, IfOk};
 ghost use Rattle.deny_std_table.specs.Spelling.{number_bytes, text_bytes};
@@ -8,7 +8,7 @@ ghost use Rattle.deny_std_table.specs.private.Draft.{IsDraft, Writes};
 use crate::error::UpgradeError;
 use std::alloc::Global;
 
-/// So many bytes are too many.
+/// The least number of bytes that is too many.
 const LIMIT: usize = 268435456;
 
 /// Bytes that are being written.
@@ -31,14 +31,14 @@ impl Draft {
         }
     }
 
-    /// There are too many already.
+    /// Whether there are too many bytes already.
     pub fn is_long(&self) -> bool
         ensures { result ≡ nat_le 268435456 self.now.size }
     {
         self.size >= LIMIT
     }
 
-    /// One byte more.
+    /// Appends one byte.
     pub fn put(&mut self, byte: u8)
         ensures { Writes self.old self.new (byte ∷ []) }
     {
@@ -48,8 +48,8 @@ impl Draft {
         self.whole = self.whole && self.size < LIMIT && self.bytes.push(byte).is_ok();
     }
 
-    /// Some bytes more.
-    pub fn put_all(&mut self, bytes: &[u8])
+    /// Appends bytes.
+    fn put_all(&mut self, bytes: &[u8])
         ensures { Writes self.old self.new bytes.now }
     {
         for byte in bytes {
@@ -57,7 +57,7 @@ impl Draft {
         }
     }
 
-    /// A number in two bytes.
+    /// Appends a number in two bytes.
     fn put_two(&mut self, number: usize)
         ensures { Writes self.old self.new (number_bytes 2 number) }
     {
@@ -65,7 +65,7 @@ impl Draft {
         self.put((number / 256 % 256) as u8);
     }
 
-    /// A number in four bytes.
+    /// Appends a number in four bytes.
     pub fn put_four(&mut self, number: usize)
         ensures { Writes self.old self.new (number_bytes 4 number) }
     {
@@ -73,7 +73,7 @@ impl Draft {
         self.put_two(number / 256 / 256);
     }
 
-    /// A text: its length, and its bytes.
+    /// Appends a text: its length, and its bytes.
     pub fn put_text(&mut self, text: &[u8])
         ensures { Writes self.old self.new (text_bytes text.now) }
     {
@@ -81,7 +81,7 @@ impl Draft {
         self.put_all(text);
     }
 
-    /// All bytes, with others behind them.
+    /// All bytes, with others after them.
     pub fn joined(self, later: Draft) -> Result<Vec<u8>, UpgradeError>
         ensures bytes { (xs ys : List ℕ) → IsDraft self xs → IsDraft later ys
             → IfOk result (λ bytes. bytes.items ≡ xs ++ ys) }

@@ -15,7 +15,7 @@ use crate::region::Region;
 use crate::spans::{TextSpan, slice_at};
 use crate::width::Width;
 
-/// A name is above the one before it.
+/// Whether a name is above the one before it.
 fn is_above(bytes: &[u8], before: Option<TextSpan>, name: TextSpan) -> bool
     requires before { ForSome before (λ p. p.at + p.size ≤ length bytes.now) }
     requires name { name.at + name.size ≤ length bytes.now }
@@ -27,7 +27,7 @@ fn is_above(bytes: &[u8], before: Option<TextSpan>, name: TextSpan) -> bool
     }
 }
 
-/// An entry, whose name is to be above the one before; answers the name.
+/// Checks an entry, whose name must be above the one before, and returns the name.
 #[tactic(auto, unfolding(crate::specs::Entries::entry))]
 fn check_entry(
     region: &Region,
@@ -64,7 +64,7 @@ pub(crate) fn region_of(width: Width, bytes: &[u8], count: u32, i: u32) -> Regio
     Region { bytes, width, stop }
 }
 
-/// All entries in turn.
+/// Checks all entries in order.
 pub(crate) fn check_entries(width: Width, bytes: &[u8], count: u32) -> Result<(), ReplacementError>
     requires { HasOffsets bytes.now count }
     ensures { result ≡ done_of (entries (width_of width) bytes.now count None 0 count) }

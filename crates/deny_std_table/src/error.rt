@@ -1,4 +1,4 @@
-use deny_lists::NoMemory;
+use deny_base_lists::NoMemory;
 use std::alloc::AllocError;
 use thiserror::Error;
 

@@ -1,7 +1,7 @@
 //! The head of a table: its mark and version, the number of its entries, and their offsets.
 
 ghost use Rattle.std.specs.Prelude.{◌≡◌, ◌+◌, ◌*◌, ◌≤◌, ◌<◌, ◌==◌, ◌||◌, ◌-◌, nat_lt, length, MatchResult};
-ghost use Rattle.deny_lists.specs.Reader.{IsFault, IsValue};
+ghost use Rattle.deny_base_lists.specs.Reader.{IsFault, IsValue};
 ghost use Rattle.deny_std_table.specs.Reading.{unless_bad, number};
 ghost use Rattle.deny_std_table.specs.Width.{width_of};
 ghost use Rattle.deny_std_table.specs.Head.{has_byte, version, header, count_of, start_of, is_offset, offsets};
@@ -11,14 +11,14 @@ use crate::width::Width;
 
 const MARK: u8 = 0xcd;
 
-/// Whether this byte stands at an offset.
+/// Whether this byte is at an offset.
 fn has_byte(bytes: &[u8], at: usize, value: u8) -> bool
     ensures { result ≡ has_byte bytes.now at value }
 {
     at < bytes.len() && bytes[at] == value
 }
 
-/// The byte at an offset has to be this one.
+/// Checks that the byte at an offset is this one.
 fn check_byte(bytes: &[u8], at: usize, value: u8) -> Result<(), ReplacementError>
     ensures { result ≡ unless_bad (has_byte bytes.now at value) at }
 {
@@ -43,7 +43,8 @@ fn version(bytes: &[u8]) -> Result<Width, ReplacementError>
     }
 }
 
-/// The first four bytes are the mark three times, and the version: how many bytes the length of a text has.
+/// Checks the first four bytes: the mark three times, and the version, which is the number of bytes
+/// of the length of a text.
 #[tactic(auto, unfolding(crate::specs::Head::header))]
 pub(crate) fn check_header(bytes: &[u8]) -> Result<Width, ReplacementError>
     ensures { MatchResult result (λ width. IsValue (header bytes.now) (width_of width)) (IsFault (header bytes.now)) }
@@ -54,7 +55,7 @@ pub(crate) fn check_header(bytes: &[u8]) -> Result<Width, ReplacementError>
     version(bytes)
 }
 
-/// The little endian number in four bytes.
+/// The little endian number of four bytes.
 #[tactic(auto, unfolding(crate::specs::Reading::number))]
 pub(crate) fn number_at(bytes: &[u8], at: usize) -> u32
     requires { at + 4 ≤ length bytes.now }
@@ -86,7 +87,7 @@ pub(crate) fn start_of(bytes: &[u8], i: u32) -> usize
     number_at(bytes, 8 + 4 * i as usize) as usize
 }
 
-/// An offset is above the one before.
+/// Whether an offset is above the one before.
 fn rises(bytes: &[u8], i: u32) -> bool
     requires { 8 + 4 * i + 4 ≤ length bytes.now }
     ensures { result ≡ (i == 0 || nat_lt (start_of bytes.now (i - 1)) (start_of bytes.now i)) }
@@ -94,7 +95,7 @@ fn rises(bytes: &[u8], i: u32) -> bool
     i == 0 || start_of(bytes, i - 1) < start_of(bytes, i)
 }
 
-/// One offset, in its four bytes.
+/// Checks one offset, in its four bytes.
 fn check_offset(bytes: &[u8], count: u32, i: u32) -> Result<(), ReplacementError>
     requires { i < count }
     ensures { result ≡ unless_bad (is_offset bytes.now count i) (8 + 4 * i) }
@@ -111,7 +112,7 @@ fn check_offset(bytes: &[u8], count: u32, i: u32) -> Result<(), ReplacementError
     }
 }
 
-/// All offsets in turn.
+/// Checks all offsets in order.
 pub(crate) fn check_offsets(bytes: &[u8], count: u32) -> Result<(), ReplacementError>
     ensures { result ≡ offsets bytes.now count 0 count }
 {

@@ -1,4 +1,4 @@
-//! The items of an entry, as they are handed out.
+//! The items of an entry, as they are returned.
 
 ghost use Rattle.std.specs.Prelude.{◌≡◌, option_map, option_copied, Some};
 ghost use Rattle.deny_std_table.specs.declared.spans.TextSpan.{TextSpan};
@@ -13,22 +13,22 @@ use crate::spans::{ApiSpans, ItemSpans, ReplacementSpans, TextSpan, borrow_text}
 pub struct Api<'d> {
     /// Its path.
     pub name: &'d str,
-    /// The address of what is written on it.
+    /// The address of its documentation.
     pub url: &'d str,
 }
 
 /// An API of a crate that has a replacement in the standard library.
 #[derive(Clone, Copy)]
 pub struct ApiReplacement<'d> {
-    /// What the crate has.
+    /// The API of the crate.
     pub krate: Api<'d>,
-    /// What the standard library has.
+    /// The API of the standard library.
     pub std: Api<'d>,
-    /// How the two differ, where something is said of it.
+    /// How the two differ, if there is a note.
     pub note: Option<&'d str>,
 }
 
-/// What an entry says of one API of its crate.
+/// An item: an API of the crate, and whether the standard library replaces it.
 #[derive(Clone, Copy)]
 pub enum ReplacementItem<'d> {
     /// It has a replacement, which is stable since the minor version of Rust 1.
@@ -77,7 +77,7 @@ fn borrow_replacement(bytes: &[u8], spans: ReplacementSpans) -> ApiReplacement
     }
 }
 
-/// An item with the texts that stand in its spans.
+/// An item with the texts of its spans.
 pub(crate) fn item_at(bytes: &[u8], spans: ItemSpans) -> ReplacementItem
     requires { IsItemIn bytes.now spans }
     ensures { IsItemAt bytes.now spans result }

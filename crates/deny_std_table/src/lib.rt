@@ -1,20 +1,20 @@
-//! The table of crates that the standard library replaces. Its bytes are read once from end to end,
-//! and each text that is handed out equals the bytes of its span.
+//! The table of crates that the standard library replaces. Its bytes are read once from end to end, and each
+//! text that is returned equals the bytes of its span.
 //!
 //! | Bytes | Meaning |
 //! |---|---|
 //! | `cd cd cd`, a version of 1 or 2, the number of entries | the head; numbers have four bytes, the lowest first |
 //! | a number for each entry | the offset at which it begins; it reaches up to the next one |
-//! | a text, three counts, items | an entry: a crate's name, and how many groups, unstable and unavailable items follow |
+//! | a text, three counts, items | an entry: a crate's name, the numbers of groups, unstable and unavailable items, and these |
 //! | a minor version, a count that is not 0, replacements | a group: stable since this version of Rust |
-//! | two APIs and a note | a replacement: what the crate offers, what std offers, and what to know |
+//! | two APIs and a note | a replacement: the API of the crate, the API of std, and how they differ |
 //! | a name and an address | an API |
 //! | a length, UTF-8 | a text; the length has one byte in version 1 and two, the lowest first, in version 2 |
 //!
-//! Whether a table speaks of a crate (a test over this call is proved):
+//! Whether a table has an entry for a crate (a test of this call is proved):
 //!
 //! ```rust
-//! pub fn speaks_of(alloc: Global, bytes: &[u8], name: &str) -> Result<bool, ReplacementError> {
+//! pub fn has_entry(alloc: Global, bytes: &[u8], name: &str) -> Result<bool, ReplacementError> {
 //!     let table = ReplacementData::from_bytes(alloc, bytes)?;
 //!     Ok(table.entry(name).is_some())
 //! }

@@ -1,8 +1,8 @@
-//! The names of a table, among which one is found in steps logarithmic in their number.
+//! The names of a table, among which one is found in a number of steps logarithmic in theirs.
 
 ghost use Rattle.std.specs.Prelude.{◌≡◌, ◌≢◌, ℕ, ◌<◌, MatchOption};
 ghost use Rattle.deny_std_table.specs.Width.{width_of};
-ghost use Rattle.deny_std_table.specs.private.Names.{name_span, name_at, HasNames};
+ghost use Rattle.deny_std_table.specs.private.Names.{name_at, HasNames};
 
 use crate::head::start_of;
 use crate::spans::{TextSpan, slice_at};

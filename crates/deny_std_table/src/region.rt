@@ -1,4 +1,4 @@
-//! One entry's bytes, and the readers of what stands in them.
+//! The bytes of one entry, and the readers of its parts.
 
 ghost use Rattle.std.specs.Prelude.{◌≡◌, ◌+◌, ◌≤◌, length, IfOk};
 ghost use Rattle.std.specs.Str.{is_utf8};
@@ -14,8 +14,8 @@ use crate::spans::{ApiSpans, Counts, GroupHead, Read, ReplacementSpans, TextSpan
 use crate::width::Width;
 use std::str;
 
-/// The bytes of a table, how many of them the length of a text has, and the offset where the entry at hand
-/// ends: nothing past it is read.
+/// The bytes of a table, the number of bytes of the length of a text, and the offset where the
+/// entry ends: nothing past it is read.
 #[derive(Clone, Copy)]
 pub(crate) struct Region<'d> {
     pub bytes: &'d [u8],
@@ -127,8 +127,8 @@ impl<'d> Region<'d> {
         })
     }
 
-    /// Passes over replacements, and answers where they end.
-    pub fn skip_replacements(&self, count: u8, at: usize) -> Result<usize, ReplacementError>
+    /// Skips replacements, and returns where they end.
+    fn skip_replacements(&self, count: u8, at: usize) -> Result<usize, ReplacementError>
         ensures { result ≡ next_of
             (many (replacement (bounds (width_of self.now.width) self.now.bytes.now self.now.stop)) count at) }
     {
@@ -139,8 +139,8 @@ impl<'d> Region<'d> {
         Ok(next)
     }
 
-    /// Passes over APIs, and answers where they end.
-    pub fn skip_apis(&self, count: u8, at: usize) -> Result<usize, ReplacementError>
+    /// Skips APIs, and returns where they end.
+    fn skip_apis(&self, count: u8, at: usize) -> Result<usize, ReplacementError>
         ensures { result ≡ next_of
             (many (api (bounds (width_of self.now.width) self.now.bytes.now self.now.stop)) count at) }
     {
@@ -159,8 +159,8 @@ impl<'d> Region<'d> {
         self.skip_replacements(head.value.count, head.next)
     }
 
-    /// Passes over groups, and answers where they end.
-    pub fn skip_groups(&self, count: u8, at: usize) -> Result<usize, ReplacementError>
+    /// Skips groups, and returns where they end.
+    fn skip_groups(&self, count: u8, at: usize) -> Result<usize, ReplacementError>
         ensures { result ≡ next_of
             (many (group (bounds (width_of self.now.width) self.now.bytes.now self.now.stop)) count at) }
     {
@@ -171,7 +171,7 @@ impl<'d> Region<'d> {
         Ok(next)
     }
 
-    /// Passes over an entry's items, and answers where they end.
+    /// Skips the items of an entry, and returns where they end.
     #[tactic(auto, unfolding(crate::specs::Region::items, crate::specs::Region::counted_items))]
     pub fn skip_items(&self, at: usize) -> Result<usize, ReplacementError>
         ensures { result ≡ next_of (items (bounds (width_of self.now.width) self.now.bytes.now self.now.stop) at) }
@@ -183,14 +183,14 @@ impl<'d> Region<'d> {
     }
 }
 
-/// An empty note is none.
+/// The span of a note, which is none where it is empty.
 fn nonempty_note(span: TextSpan) -> Option<TextSpan>
     ensures { result ≡ nonempty_note span }
 {
     if span.size == 0 { None } else { Some(span) }
 }
 
-/// Whether UTF-8 stands in a span.
+/// Whether the bytes of a span are UTF-8.
 fn is_text(bytes: &[u8], span: TextSpan) -> bool
     requires { span.at + span.size ≤ length bytes.now }
     ensures { result ≡ is_utf8 (contents bytes.now span) }

@@ -1,6 +1,6 @@
-//! What a table says of one crate.
+//! The entry of one crate.
 
-ghost use Rattle.std.specs.Prelude.{◌≡◌, Ok, None, IsOk, MatchOption, List, [], ◌∷◌};
+ghost use Rattle.std.specs.Prelude.{◌≡◌, Ok, None, IsOk, MatchOption, [], ◌∷◌};
 ghost use Rattle.deny_std_table.specs.Width.{width_of};
 ghost use Rattle.deny_std_table.specs.declared.spans.ItemSpans.{ItemSpans};
 ghost use Rattle.deny_std_table.specs.Region.{bounds};
@@ -13,7 +13,7 @@ use crate::region::Region;
 use crate::spans::Counts;
 use std::marker::Model;
 
-/// What a table says of one crate, over the table's bytes.
+/// The entry of one crate, in the bytes of its table.
 #[derive(Drop)]
 pub struct Replacement<'d> {
     region: Region<'d>,
@@ -57,7 +57,7 @@ impl<'d> Replacement<'d> {
         }
     }
 
-    /// All that is said of the crate: the stable replacements, then the others, then the APIs without one.
+    /// All items of the entry: the stable replacements, then the others, then the APIs without one.
     pub fn iter(&self) -> ReplacementIter<'d>
         ensures bytes { result.bytes ≡ self.now.bytes }
         ensures items { result.items ≡ items_of self.now.items }
@@ -73,7 +73,7 @@ impl<'d> Replacement<'d> {
     }
 }
 
-/// What is left of an entry.
+/// The items of an entry that are left.
 #[derive(Drop)]
 pub struct ReplacementIter<'d> {
     cursor: Cursor<'d>,
@@ -92,8 +92,8 @@ impl<'d> Model for ReplacementIter<'d> {
 }
 
 impl<'d> ReplacementIter<'d> {
-    /// The next item, with the texts that stand in the table's bytes. After the last one none comes, however
-    /// often it is asked.
+    /// The next item, with its texts in the bytes of the table. After the last one there is none,
+    /// however often it is asked for.
     pub fn next(&mut self) -> Option<ReplacementItem<'d>>
         ensures bytes { self.new.bytes ≡ self.old.bytes }
         ensures items { MatchOption result

@@ -1,4 +1,4 @@
-//! Where the texts of a table stand in its bytes.
+//! The spans of texts in the bytes of a table.
 
 ghost use Rattle.std.specs.Prelude.{◌≡◌, ◌+◌, ◌≤◌, length};
 ghost use Rattle.deny_std_table.specs.Spans.{contents};
@@ -6,7 +6,7 @@ ghost use Rattle.deny_std_table.specs.private.Spans.{IsTextIn};
 
 use std::str;
 
-/// A text's span: its first byte's offset, and how many bytes it has.
+/// The span of a text: the offset of its first byte, and its length.
 #[derive(Clone, Copy)]
 pub(crate) struct TextSpan {
     pub at: usize,
@@ -49,14 +49,15 @@ pub(crate) struct Counts {
     pub unavailable: u8,
 }
 
-/// The head of a group: its minor version, and how many replacements are stable since then.
+/// The head of a group: its minor version, and the number of replacements that are stable since
+/// then.
 #[derive(Clone, Copy)]
 pub(crate) struct GroupHead {
     pub minor: u8,
     pub count: u8,
 }
 
-/// What was read, and the offset right after it.
+/// A value that was read, and the offset right after it.
 #[derive(Clone, Copy)]
 pub(crate) struct Read<T> {
     pub value: T,

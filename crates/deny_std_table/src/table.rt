@@ -2,7 +2,7 @@
 
 ghost use Rattle.std.specs.Prelude.{◌≡◌, ◌≢◌, ◌↔◌, ◌≤◌, ◌^◌, ℕ, List, length};
 ghost use Rattle.std.specs.Prelude.{Err, IfOk, IfErr, OnErr, MatchResult, option_map};
-ghost use Rattle.deny_lists.specs.Reader.{IsFault, IsValue};
+ghost use Rattle.deny_base_lists.specs.Reader.{IsFault, IsValue};
 ghost use Rattle.deny_std_table.specs.Entries.{Entry};
 ghost use Rattle.deny_std_table.specs.Width.{width_of};
 ghost use Rattle.deny_std_table.specs.Layout.{IsTable};
@@ -39,11 +39,13 @@ impl<'d> Model for ReplacementData<'d> {
 }
 
 impl<'d> ReplacementData<'d> {
-    /// Reads a whole table, of which nothing is copied. Bytes after an entry's last item are ignored.
+    /// Reads a whole table, of which nothing is copied. Bytes after the last item of an entry are
+    /// ignored.
     ///
-    /// The bytes are refused as `Bad` exactly where they are no table, with the byte offset of their first
-    /// break: of the mark and version, the number of entries, their offsets, and the entries, in this order.
-    /// No memory is wanted, so `Memory` never comes. The time grows in step with the bytes.
+    /// The bytes are refused as `Bad` exactly where they are no table, with the byte offset of
+    /// their first break: in the mark and version, the number of entries, their offsets, or the
+    /// entries, in this order. `Memory` never comes, since no memory is allocated. The time is
+    /// linear in the number of bytes.
     pub fn from_bytes(
         _alloc: Global,
         bytes: &'d [u8],
@@ -66,8 +68,8 @@ impl<'d> ReplacementData<'d> {
         })
     }
 
-    /// What the table says of the crate with a name. The names rise, so it is found by halving: in steps
-    /// logarithmic in the number of entries.
+    /// The entry of the crate with a name. The names ascend, so that binary search finds it: in a
+    /// number of steps logarithmic in the number of entries.
     pub fn entry(&self, name: &str) -> Option<Replacement<'d>>
         ensures { result ≡ option_map (items_in self.now) (entry_named self.now name.now) }
     {
@@ -76,10 +78,11 @@ impl<'d> ReplacementData<'d> {
         Some(Replacement::open(&region, start_of(self.bytes, i)))
     }
 
-    /// The table's bytes in version 2 of the format, without those that are ignored. They are read as a table
-    /// that says the same.
+    /// The table in version 2 of the format, without the bytes that are ignored. They are read as a
+    /// table that says the same.
     ///
-    /// `Long` comes exactly where they would be 2^28 or more. The time grows in step with the table's bytes.
+    /// `Long` comes exactly where they would be 2^28 or more. The time is linear in the number of
+    /// the table's bytes.
     pub fn upgrade(&self, alloc: Global) -> Result<Vec<u8>, UpgradeError>
         ensures bytes { IfOk result (λ bytes. bytes.items ≡ upgraded self.now) }
         ensures same_items { IfOk result (λ bytes. SaysTheSame self.now bytes.items) }
@@ -89,7 +92,8 @@ impl<'d> ReplacementData<'d> {
     }
 }
 
-/// Tests all bytes of a table, and answers how many bytes the length of a text has, and the number of entries.
+/// Checks all bytes of a table, and returns the number of bytes of the length of a text, and the
+/// number of entries.
 fn check(bytes: &[u8]) -> Result<(Width, u32), ReplacementError>
     ensures { MatchResult result
         (λ r. IsRead (width_of r.0) bytes.now r.1)

@@ -1,4 +1,4 @@
-//! A table in the second version of the format, without what is ignored.
+//! A table in version 2 of the format, without the bytes that are ignored.
 
 ghost use Rattle.std.specs.Prelude.{◌≡◌, ◌++◌, ◌↔◌, ◌≤◌, ◌<◌, ◌+◌, List, [], ◌∷◌};
 ghost use Rattle.std.specs.Prelude.{length, map, flat_map, Ok, Err, Some, None, IsOk, IfOk, option_map};
@@ -8,7 +8,7 @@ ghost use Rattle.deny_std_table.specs.declared.spans.ApiSpans.{ApiSpans};
 ghost use Rattle.deny_std_table.specs.declared.spans.Read.{Read};
 ghost use Rattle.deny_std_table.specs.Width.{width_of};
 ghost use Rattle.deny_std_table.specs.Reading.{many};
-ghost use Rattle.deny_std_table.specs.private.Reading.{next_of, done_of};
+ghost use Rattle.deny_std_table.specs.private.Reading.{next_of};
 ghost use Rattle.deny_std_table.specs.Region.{bounds, Group, Items, api, replacement, group, items};
 ghost use Rattle.deny_std_table.specs.Entries.{Entry, entry};
 ghost use Rattle.deny_std_table.specs.Spans.{contents};
@@ -36,7 +36,7 @@ fn put_api(draft: &mut Draft, bytes: &[u8], spans: ApiSpans)
     draft.put_text(slice_at(bytes, spans.url));
 }
 
-/// A note, which is empty where there is none.
+/// Writes a note, which is empty where there is none.
 fn put_note(draft: &mut Draft, bytes: &[u8], span: Option<TextSpan>)
     requires { (t : TextSpan) → span ≡ Some t → IsTextIn bytes.now t }
     ensures { Writes draft.old draft.new (note_bytes (option_map (contents bytes.now) span)) }
@@ -56,7 +56,7 @@ fn put_replacement(draft: &mut Draft, bytes: &[u8], spans: ReplacementSpans)
     put_note(draft, bytes, spans.note);
 }
 
-/// Writes replacements, and answers where they end.
+/// Writes replacements, and returns where they end.
 fn copy_replacements(
     draft: &mut Draft,
     region: &Region,
@@ -79,7 +79,7 @@ fn copy_replacements(
     Ok(next)
 }
 
-/// Writes APIs, and answers where they end.
+/// Writes APIs, and returns where they end.
 fn copy_apis(
     draft: &mut Draft,
     region: &Region,
@@ -101,7 +101,7 @@ fn copy_apis(
     Ok(next)
 }
 
-/// Writes a group, and answers where it ends.
+/// Writes a group, and returns where it ends.
 #[tactic(auto, unfolding(crate::specs::Region::group))]
 fn copy_group(draft: &mut Draft, region: &Region, at: usize) -> Result<usize, ReplacementError>
     ensures value { result
@@ -116,7 +116,7 @@ fn copy_group(draft: &mut Draft, region: &Region, at: usize) -> Result<usize, Re
     copy_replacements(draft, region, head.value.count, head.next)
 }
 
-/// Writes groups, and answers where they end.
+/// Writes groups, and returns where they end.
 fn copy_groups(
     draft: &mut Draft,
     region: &Region,
@@ -136,7 +136,7 @@ fn copy_groups(
     Ok(next)
 }
 
-/// Writes an entry's items, and answers where they end.
+/// Writes the items of an entry, and returns where they end.
 #[tactic(auto, unfolding(crate::specs::Region::items, crate::specs::Region::counted_items))]
 fn copy_items(draft: &mut Draft, region: &Region, at: usize) -> Result<usize, ReplacementError>
     ensures value { result
@@ -176,7 +176,7 @@ fn put_head(draft: &mut Draft, count: u32)
     draft.put_four(count as usize);
 }
 
-/// The bytes of the second version that say what a table says.
+/// The bytes of version 2 that say what a table says.
 pub(crate) fn upgraded_bytes(
     alloc: Global,
     width: Width,

@@ -4,7 +4,7 @@ ghost use Rattle.std.specs.Prelude.{◌≡◌, ◌+◌, ◌≤◌, ◌<◌, leng
 ghost use Rattle.deny_std_table.specs.Reading.{number};
 ghost use Rattle.deny_std_table.specs.Width.{width_of};
 
-/// How many bytes the length of a text has.
+/// The number of bytes of the length of a text.
 #[derive(Clone, Copy)]
 pub(crate) enum Width {
     One,
@@ -12,7 +12,7 @@ pub(crate) enum Width {
 }
 
 impl Width {
-    /// So many bytes.
+    /// The number as a `usize`.
     pub fn bytes(self) -> usize
         ensures value { result ≡ width_of self }
         ensures some { 0 < result }
@@ -24,7 +24,7 @@ impl Width {
         }
     }
 
-    /// The length that stands at an offset.
+    /// The length at an offset.
     #[tactic(auto, unfolding(crate::specs::Reading::number))]
     pub fn length_at(self, bytes: &[u8], at: usize) -> usize
         requires { at + width_of self ≤ length bytes.now }

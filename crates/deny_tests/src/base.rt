@@ -2,7 +2,7 @@
 ghost use Rattle.std.specs.Prelude.{◌<◌, ◌^◌, length};
 
 use deny_base::{Code, DiagnosticCode, FileId, Files, LicenseCode, Location};
-use deny_lists::{NoMemory, Text};
+use deny_base_lists::{NoMemory, Text};
 use std::alloc::Global;
 
 fn prints(rt: &HostRuntime, code: DiagnosticCode, word: &str) -> Result<bool, NoMemory> {
@@ -32,33 +32,33 @@ fn files_of(alloc: Global, text: &str) -> Result<Files, NoMemory>
     Ok(files)
 }
 
-fn stands_at(files: &Files, offset: u32, line: u32, column: u32) -> bool {
+fn is_at(files: &Files, offset: u32, line: u32, column: u32) -> bool {
     files.location(0, offset) == Some(Location { line, column })
 }
 
-fn stands_nowhere(files: &Files, id: FileId, offset: u32) -> bool {
+fn is_nowhere(files: &Files, id: FileId, offset: u32) -> bool {
     files.location(id, offset).is_none()
 }
 
-fn are_in_columns(files: &Files) -> bool {
-    stands_at(files, 0, 0, 0)
-        && stands_at(files, 3, 0, 2)
-        && stands_at(files, 4, 1, 0)
-        && stands_at(files, 11, 1, 2)
-        && stands_at(files, 12, 1, 3)
+fn have_columns(files: &Files) -> bool {
+    is_at(files, 0, 0, 0)
+        && is_at(files, 3, 0, 2)
+        && is_at(files, 4, 1, 0)
+        && is_at(files, 11, 1, 2)
+        && is_at(files, 12, 1, 3)
 }
 
 fn are_nowhere(files: &Files) -> bool {
-    stands_nowhere(files, 0, 2)
-        && stands_nowhere(files, 0, 10)
-        && stands_nowhere(files, 0, 13)
-        && stands_nowhere(files, 1, 0)
+    is_nowhere(files, 0, 2)
+        && is_nowhere(files, 0, 10)
+        && is_nowhere(files, 0, 13)
+        && is_nowhere(files, 1, 0)
 }
 
 #[test]
 fn a_column_counts_characters(rt: HostRuntime) -> Result<(), NoMemory> {
     let files = files_of(rt.alloc(), TEXT)?;
-    assert!(rt; are_in_columns(&files) && are_nowhere(&files));
+    assert!(rt; have_columns(&files) && are_nowhere(&files));
     Ok(())
 }
 
@@ -77,10 +77,10 @@ fn finds_far_offsets(alloc: Global, text: &Text) -> Result<bool, NoMemory> {
     }
     let files = files_of(alloc, text.as_str())?;
     Ok(
-        stands_at(&files, 254, 0, 127)
-            && stands_at(&files, 256, 0, 128)
-            && stands_at(&files, 800, 0, 400)
-            && stands_nowhere(&files, 0, 513),
+        is_at(&files, 254, 0, 127)
+            && is_at(&files, 256, 0, 128)
+            && is_at(&files, 800, 0, 400)
+            && is_nowhere(&files, 0, 513),
     )
 }
 

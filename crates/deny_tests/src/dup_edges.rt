@@ -1,11 +1,11 @@
 //! What is shown of duplicates.
 use crate::krates::built;
 use deny_base::{Code, DepKind, DiagnosticCode, Edge, Files, Key, Section, Span};
+use deny_base_lists::{List, NoMemory, Text};
 use deny_cfg::bans::cfg::ValidConfig;
 use deny_cfg::read_policy;
-use deny_dup_edges::{DupEdges, DupSet, dup_edges_of};
 use deny_krates::Krates;
-use deny_lists::{List, NoMemory, Text};
+use deny_rules_dup_edges::{DupEdges, DupSet, dup_edges_of};
 use std::alloc::Global;
 
 // `app` leads to `a` and to `c` 1.0.0, and `a` to `c` 2.0.0, for itself and for its tests.

@@ -1,4 +1,4 @@
-//! The callers that the leaf crates show at their heads, with what they answer.
+//! The callers that the leaf crates show in their documentation, with their answers.
 ghost use Rattle.std.specs.Prelude.{◌≡◌, ◌<◌, ◌^◌, IfOk, IfSome, Ok, List, is_some, length};
 ghost use Rattle.deny_spdx.specs.Bad.{Spells};
 ghost use Rattle.deny_spdx.specs.Grammar.{IsExpression};
@@ -13,10 +13,10 @@ use deny_std_table::{ReplacementData, ReplacementError};
 use deny_toml::{TomlError, parse};
 use std::alloc::Global;
 
-/// Whether an expression holds where its requirements have these values; none where they are not as many.
-fn holds(alloc: Global, text: &str, values: &[bool]) -> Result<Option<bool>, SpdxError>
-    ensures { IfOk result (λ answer. IfSome answer (λ holds.
-        (e : Expression) × Spells IsExpression text.now e × (holds ≡ truth values.now e.tree))) }
+/// Whether an expression is true where its requirements have these values; none where they are not as many.
+fn is_true(alloc: Global, text: &str, values: &[bool]) -> Result<Option<bool>, SpdxError>
+    ensures { IfOk result (λ answer. IfSome answer (λ value.
+        (e : Expression) × Spells IsExpression text.now e × (value ≡ truth values.now e.tree))) }
 {
     let expression = Expression::parse(alloc, text)?;
     if expression.requirements().len() != values.len() {
@@ -25,10 +25,10 @@ fn holds(alloc: Global, text: &str, values: &[bool]) -> Result<Option<bool>, Spd
     Ok(Some(expression.evaluate(values)))
 }
 
-/// Whether a table speaks of a crate.
-fn speaks_of(alloc: Global, bytes: &[u8], name: &str) -> Result<bool, ReplacementError>
-    ensures { IfOk result (λ speaks. (entries : List Entry) × (table bytes.now ≡ Ok entries)
-        × (speaks ≡ is_some (entry_named (record { bytes = bytes.now; entries = entries }) name.now))) }
+/// Whether a table has an entry for a crate.
+fn has_entry(alloc: Global, bytes: &[u8], name: &str) -> Result<bool, ReplacementError>
+    ensures { IfOk result (λ found. (entries : List Entry) × (table bytes.now ≡ Ok entries)
+        × (found ≡ is_some (entry_named (record { bytes = bytes.now; entries = entries }) name.now))) }
 {
     let table = ReplacementData::from_bytes(alloc, bytes)?;
     Ok(table.entry(name).is_some())
@@ -52,15 +52,15 @@ fn fits(alloc: Global, pattern: &str, path: &str) -> Result<bool, GlobError> {
 }
 
 #[test]
-fn a_licence_holds(rt: HostRuntime) {
-    let holds = holds(rt.alloc(), "MIT OR Zlib AND ISC", &[false, true, true]);
-    assert!(rt; matches!(holds, Ok(Some(true))));
+fn an_expression_is_evaluated(rt: HostRuntime) {
+    let value = is_true(rt.alloc(), "MIT OR Zlib AND ISC", &[false, true, true]);
+    assert!(rt; matches!(value, Ok(Some(true))));
 }
 
 #[test]
-fn no_table_speaks_of_a_crate(rt: HostRuntime) {
-    let speaks = speaks_of(rt.alloc(), b"\xcd\xcd\xcd\x01", "x");
-    assert!(rt; matches!(speaks, Err(ReplacementError::Bad(4))));
+fn bytes_that_break_are_no_table(rt: HostRuntime) {
+    let found = has_entry(rt.alloc(), b"\xcd\xcd\xcd\x01", "x");
+    assert!(rt; matches!(found, Err(ReplacementError::Bad(4))));
 }
 
 #[test]

@@ -2,10 +2,10 @@
 ghost use Rattle.std.specs.Prelude.{◌<◌, IsTrue, length};
 
 use deny_base::Kid;
+use deny_base_lists::{List, NoMemory, Text};
 use deny_krates::{
     DepKind, Dependency, DirectDependent, GitSpec, Krate, Krates, MetadataFault, Source, Target,
 };
-use deny_lists::{List, NoMemory, Text};
 use semver::Version;
 use std::alloc::Global;
 
@@ -53,7 +53,7 @@ fn are_crates(krates: &[Krate], ids: &[&str]) -> bool {
     all
 }
 
-// By name, version text, source and id; `z` is none of them.
+// The crates ascend by name, version text, source and id; `z` is none of them.
 fn are_in_order(krates: &Krates) -> bool {
     are_crates(krates.krates(), &["app", "r#x@1.10.0", "g#x@1.9.0", "y"])
         && are_crates(krates.krates_by_name("x"), &["r#x@1.10.0", "g#x@1.9.0"])
@@ -125,7 +125,7 @@ fn are_texts(found: Option<&[Text]>, expected: &[&str]) -> bool {
     }
 }
 
-// Enabled features ascend, each once.
+// The enabled features of `app` ascend, each once.
 fn is_app(krates: &Krates, id: &Kid) -> bool {
     is_crate(krates.node_for_kid(id), "app")
         && are_texts(krates.get_enabled_features(id), &["one", "two"])
@@ -335,8 +335,8 @@ const RESOLVED: &str = r#"{"packages":[
 {"pkg":"x2","dep_kinds":[{"kind":null,"target":"cfg(windows)"},{"kind":null,"target":"cfg(windows)"}]}]},
 {"id":"w"},{"id":"x1"},{"id":"x2"},{"id":"y1","deps":[{"pkg":"w"}]},{"id":"y2"},{"id":"z1"},{"id":"z2"}]}}"#;
 
-// Two targets, then a target that no node names and none; another name; kinds; the version that
-// matches, or else the first; a dependency of another crate, and no declaration.
+// The declarations of `app`: two targets, then a target that no node names and none; another name; kinds; the
+// version that matches, or else the first; a dependency of another crate, and no declaration.
 fn are_resolved(krates: &Krates) -> bool {
     let places = [
         Some(2),
@@ -459,28 +459,28 @@ fn a_git_source_names_its_reference(rt: HostRuntime) {
     );
 }
 
-fn is_told(alloc: Global, fault: &MetadataFault, told: &str) -> bool {
+fn shows(alloc: Global, fault: &MetadataFault, text: &str) -> bool {
     match format!(in alloc; "{fault}") {
-        Ok(printed) => printed.as_str() == told,
+        Ok(printed) => printed.as_str() == text,
         Err(_) => false,
     }
 }
 
-fn tells(alloc: Global, text: &str, told: &str) -> bool {
-    match built(alloc, text) {
+fn fails_with(alloc: Global, metadata: &str, text: &str) -> bool {
+    match built(alloc, metadata) {
         Ok(_) => false,
-        Err(fault) => is_told(alloc, &fault, told),
+        Err(fault) => shows(alloc, &fault, text),
     }
 }
 
-fn tells_causes(alloc: Global) -> bool {
-    tells(alloc, "{", "the metadata is no JSON")
-        && tells(
+fn faults_show_causes(alloc: Global) -> bool {
+    fails_with(alloc, "{", "the metadata is no JSON")
+        && fails_with(
             alloc,
             r#"{"resolve":1,"packages":1}"#,
             "the member `packages` of the metadata is missing or of another kind",
         )
-        && tells(
+        && fails_with(
             alloc,
             r#"{"resolve":{"nodes":[]},"packages":[],"workspace_members":["b"],"workspace_root":"/"}"#,
             "the id `b` has no package or no node in the metadata",
@@ -488,6 +488,6 @@ fn tells_causes(alloc: Global) -> bool {
 }
 
 #[test]
-fn a_fault_tells_its_cause(rt: HostRuntime) {
-    assert!(rt; tells_causes(rt.alloc()));
+fn a_fault_reports_its_cause(rt: HostRuntime) {
+    assert!(rt; faults_show_causes(rt.alloc()));
 }

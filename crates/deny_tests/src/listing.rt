@@ -1,7 +1,7 @@
 //! What disks list, and calls that fail by their numbers.
 use crate::outside::put;
-use deny_lists::{NoMemory, Text};
-use deny_outside::{Entry, MemoryDisk, PackageFiles, RealDisk, SureDisk};
+use deny_base_disk::{Entry, MemoryDisk, PackageFiles, RealDisk, SureDisk};
+use deny_base_lists::{NoMemory, Text};
 use std::alloc::Global;
 use std::fs;
 
@@ -43,7 +43,7 @@ fn lists_children(alloc: Global, disk: &mut MemoryDisk) -> bool {
         && lists(alloc, disk, "/ws/n", "?")
 }
 
-/// Of calls of both kinds the second, and no other.
+/// Of the calls of both kinds the second fails, and no other.
 fn fails_second(alloc: Global, disk: &mut MemoryDisk) -> bool {
     let mut buffer = [0; 1];
     disk.fail_call(1).is_ok()

@@ -1,38 +1,36 @@
 //! Records put in order by a key of theirs.
-ghost use Rattle.std.specs.Prelude.{◌≡◌};
-
-use deny_lists::{Keyed, List, NoMemory, put_records_in_order};
+use deny_base_lists::{Keyed, List, NoMemory, put_records_in_order};
 
 #[derive(Clone, Copy, PartialEq, Eq)]
-struct Told {
+struct Numbered {
     number: u32,
     text: u32,
 }
 
-impl Keyed for Told {
+impl Keyed for Numbered {
     type Key = u32;
 
-    ghost key = { λ told. told.number };
+    ghost key = { λ numbered. numbered.number };
 
     fn key(&self) -> &u32 {
         &self.number
     }
 }
 
-fn make_told(number: u32, text: u32) -> Told {
-    Told { number, text }
+fn record_of(number: u32, text: u32) -> Numbered {
+    Numbered { number, text }
 }
 
-/// Of two with one key the first of the list stays.
-fn put_in_order(list: &mut List<Told>) -> Result<(), NoMemory> {
+/// Puts records in order, of which two pairs have the same key.
+fn put_in_order(list: &mut List<Numbered>) -> Result<(), NoMemory> {
     for (number, text) in [(7, 1), (3, 2), (7, 3), (5, 4), (3, 5)] {
-        list.push(make_told(number, text))?;
+        list.push(record_of(number, text))?;
     }
     put_records_in_order(list)
 }
 
-fn are_first(records: &[Told]) -> bool {
-    records == [make_told(3, 2), make_told(5, 4), make_told(7, 1)].as_slice()
+fn are_first(records: &[Numbered]) -> bool {
+    records == [record_of(3, 2), record_of(5, 4), record_of(7, 1)].as_slice()
 }
 
 #[test]

@@ -1,8 +1,8 @@
 //! The disk and the output in memory.
 ghost use Rattle.std.specs.Prelude.{◌≤◌};
 
-use deny_lists::NoMemory;
-use deny_outside::{MemoryDisk, MemoryOut, Out, is_path, read_whole};
+use deny_base_disk::{MemoryDisk, MemoryOut, Out, is_path, read_whole};
+use deny_base_lists::NoMemory;
 use std::alloc::Global;
 
 /// Puts a file where one can stand, and says whether that is so.
@@ -27,7 +27,7 @@ fn fill(disk: &mut MemoryDisk) -> Result<bool, NoMemory> {
     Ok(put(disk, "/ws/app/Cargo.toml", b"seven b")? && put(disk, "/ws/bad", b"text")?)
 }
 
-/// Each of these read whole.
+/// A file is read whole, a folder and a failing path are not.
 fn are_read(alloc: Global, disk: &mut MemoryDisk) -> bool {
     reads(alloc, disk, "/ws/app/Cargo.toml", b"seven b")
         && read_whole(alloc, disk, "/ws/app").is_err()
@@ -68,7 +68,7 @@ fn refuses(disk: &mut MemoryDisk, path: &str) -> bool {
 }
 
 /// No file stands where a folder does, and none below a file.
-fn refuses_what_stands(disk: &mut MemoryDisk) -> bool {
+fn refuses_a_second_kind(disk: &mut MemoryDisk) -> bool {
     matches!(put(disk, "/ws/a/b", b"text"), Ok(true))
         && matches!(put(disk, "/ws/a/b", b"other"), Ok(true))
         && refuses(disk, "/ws/a")
@@ -78,7 +78,7 @@ fn refuses_what_stands(disk: &mut MemoryDisk) -> bool {
 #[test]
 fn a_file_is_no_folder(rt: HostRuntime) {
     let mut disk = MemoryDisk::new(rt.alloc(), 1);
-    assert!(rt; refuses_what_stands(&mut disk));
+    assert!(rt; refuses_a_second_kind(&mut disk));
 }
 
 fn takes_what_fits(out: &mut MemoryOut) -> bool {

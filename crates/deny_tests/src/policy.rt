@@ -14,7 +14,7 @@ fn string_value(string: Scalar<'static>, end: u32) -> Value<'static> {
     }
 }
 
-/// The value of a string on one line that stands from 16 to `end`.
+/// The value of a string on one line whose span is from 16 to `end`.
 fn text_value(text: &'static str, end: u32) -> Value<'static> {
     string_value(Scalar::Text(CowStr::borrowed(text)), end)
 }
@@ -28,7 +28,7 @@ fn is_named(spec: &PackageSpec, name: &str, start: u32, end: u32) -> bool {
 }
 
 #[test]
-fn a_name_on_several_lines_has_the_range_of_its_string(rt: HostRuntime) -> Result<(), DeserError> {
+fn a_name_on_several_lines_has_the_span_of_its_string(rt: HostRuntime) -> Result<(), DeserError> {
     let mut value = string_value(Scalar::Multiline(CowStr::borrowed("x@1")), 19);
     let spec = PackageSpec::deserialize(rt.alloc(), &mut value)?;
     assert!(rt; is_named(&spec, "x", 16, 19));
@@ -43,7 +43,7 @@ fn is_bare(spec: &PackageSpec) -> bool {
     is_named(spec, "x", 16, 17) && spec.req_text.is_none()
 }
 
-/// With an escape the range of the name is that of the string.
+/// With an escape the span of the name is that of the string.
 fn is_escaped(alloc: Global, plain: &PackageSpec) -> bool {
     match spec_of(alloc, "x@1", 24) {
         Ok(spec) => is_named(&spec, "x", 16, 24) && spec == *plain,
@@ -167,14 +167,14 @@ fn digits_of_either_case_are_read(rt: HostRuntime) {
     assert!(rt; is_read(rt.alloc(), UPPER, LOWER) && is_short() && has_letter());
 }
 
-fn tells(alloc: Global, error: ChecksumParseError, told: &str) -> bool {
+fn shows(alloc: Global, error: ChecksumParseError, text: &str) -> bool {
     match format!(in alloc; "{error}") {
-        Ok(printed) => printed.as_str() == told,
+        Ok(printed) => printed.as_str() == text,
         Err(_) => false,
     }
 }
 
-fn tells_memory(alloc: Global) -> bool {
+fn shows_memory(alloc: Global) -> bool {
     let memory = PolicyError::Memory;
     match format!(in alloc; "{memory}") {
         Ok(printed) => printed.as_str() == "the memory did not suffice",
@@ -182,12 +182,12 @@ fn tells_memory(alloc: Global) -> bool {
     }
 }
 
-fn tells_causes(alloc: Global) -> bool {
-    tells(
+fn faults_show_causes(alloc: Global) -> bool {
+    shows(
         alloc,
         ChecksumParseError::InvalidLength(63),
         "a checksum has 64 hex digits, and not 63",
-    ) && tells(
+    ) && shows(
         alloc,
         ChecksumParseError::InvalidValue('g'),
         "`g` is no hex digit",
@@ -196,5 +196,5 @@ fn tells_causes(alloc: Global) -> bool {
 
 #[test]
 fn an_error_names_its_cause(rt: HostRuntime) {
-    assert!(rt; tells_causes(rt.alloc()) && tells_memory(rt.alloc()));
+    assert!(rt; faults_show_causes(rt.alloc()) && shows_memory(rt.alloc()));
 }

@@ -1,7 +1,7 @@
-//! The calls on the values of a TOML text: keys, faults and paths. What a text is stands in
-//! `deny_toml_cases`.
+//! The calls on the values of a TOML text: keys, faults and paths. What a text is, is shown in
+//! `deny_cases_toml`.
 
-use deny_lists::{List, NoMemory, Text};
+use deny_base_lists::{List, NoMemory, Text};
 use deny_toml::{ConfigFault, DeserError, FaultKind, TableHelper, Value, parse};
 use std::alloc::Global;
 
@@ -100,7 +100,7 @@ fn is_nameless(faults: &[ConfigFault]) -> bool {
         && matches!(faults.first(), Some(fault) if fault.is_nameless)
 }
 
-/// That value itself.
+/// A value under the key whose name is empty.
 fn names_value(alloc: Global, value: &mut Value) -> bool {
     let Ok(mut helper) = TableHelper::new(alloc, value) else {
         return false;

@@ -1,9 +1,9 @@
 //! Walks of packages over the disk in memory.
 use deny_base::Kid;
-use deny_lists::{List, NoMemory, Text};
-use deny_outside::MemoryDisk;
-use deny_unread::Unread;
-use deny_walk::walk_package;
+use deny_base_disk::MemoryDisk;
+use deny_base_lists::{List, NoMemory, Text};
+use deny_base_unread::Unread;
+use deny_build_walk::walk_package;
 use std::alloc::Global;
 
 /// A package with folders below it, `.git` in two of them, and a file beside its folder.

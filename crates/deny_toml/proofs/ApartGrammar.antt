@@ -1,4 +1,4 @@
--- The values of a text stand one after another, so that an offset begins one scalar of its tree at most.
+-- The values of a text follow one another, so that at most one scalar of its tree begins at an offset.
 use Rattle.std.proofs.Common.{◌≡◌, ℕ, ◌+◌, ◌<◌, ◌≤◌, cond, ◌==◌, nat_lt, List, [], ◌∷◌, ◌++◌, map, length, refl, sym}
 use Rattle.std.proofs.Common.{ap, subst, ◌∙◌, inl, inr, arith, rules, length-append}
 use Rattle.std.proofs.lemmas.Bool.{cases_Bool}
@@ -11,7 +11,7 @@ use Rattle.deny_toml_grammar.specs.declared.expression.Written.{Written}
 use Rattle.deny_toml_grammar.specs.declared.expression.WrittenContent.{WrittenContent, the_lemmas}
 use Rattle.deny_toml_grammar.specs.declared.expression.WrittenContent.TheVariants as content
 use Rattle.deny_toml_grammar.specs.declared.expression.Assignment.{Assignment}
-use Rattle.deny_toml_grammar.specs.declared.expression.Expression.{Expression}
+use Rattle.deny_toml_grammar.specs.declared.expression.TomlExpression.{TomlExpression}
 use Rattle.deny_toml_grammar.specs.Expression.{span_of}
 use Rattle.deny_toml_tree.specs.Value.{value_with}
 use Rattle.deny_toml_grammar.specs.Expression.{written_with, assignment_with, assigned_value}
@@ -30,7 +30,7 @@ use Rattle.deny_toml_tree.proofs.ApartLaws.{times, apart_from_times, starts_of_s
 use Rattle.deny_toml_tree.proofs.ApartTree.{weight, values_weight, members_weight, array_weight, table_value_weight}
 use Rattle.deny_toml_tree.proofs.ApartTree.{members_no_more, assigned_weight, document_weight, tree_no_more}
 
--- a value that is made of its range and what it is
+-- a written value, by its span and its content
 value_made : (span : Span) (what : WrittenContent) → written_value (written_with span what) ≡ value_with span
     (written_in span what)
 value_made span what = search (rules, the_lemmas)
@@ -39,7 +39,7 @@ assigned_made : (path : List Key) (w : Written) → assigned_value (assignment_w
 assigned_made path w = search (rules, the_lemmas)
 
 module _ (x : ℕ) where
-  -- The offset is counted once at most, and not at all where it does not lie from the one offset to before the other.
+  -- the offset is counted at most once, and only where it lies from `from` to before `to`
   record IsOnce (from to count : ℕ) : Type 0 where
     at_most : count ≤ 1
     before : x < from → count ≡ 0
@@ -48,7 +48,7 @@ module _ (x : ℕ) where
   none : (from to : ℕ) → IsOnce from to 0
   none from to = record { at_most = omega arith; before = λ below. refl; after = λ above. refl }
 
-  -- in a wider range, or counted less often
+  -- a wider range, or a smaller count
   wider : (from to start end count : ℕ) → start ≤ from → to ≤ end → IsOnce from to count → IsOnce start end count
   wider from to start end count low high once =
       record {
@@ -66,7 +66,7 @@ module _ (x : ℕ) where
         after = λ above. omega (arith, once.after above);
       }
 
-  -- in two ranges, one after the other
+  -- two ranges, one after the other
   both : (from middle to one other : ℕ) → from ≤ middle → middle ≤ to → IsOnce from middle one → IsOnce middle to other
       → IsOnce from to (one + other)
   both from middle to one other low high here there =
@@ -81,7 +81,7 @@ module _ (x : ℕ) where
             fewer from to other (one + other) (omega arith) (wider middle to from to other low (omega arith) there)
       ]
 
-  -- a scalar that begins within the range
+  -- a scalar that begins in the range
   point : (from to start : ℕ) → from ≤ start → start < to → IsOnce from to (cond (start == x) 1 0 + 0)
   point from to start low high =
       elim (cases_Bool (start == x)) [
@@ -134,8 +134,8 @@ module _ (x : ℕ) where
     value_once depth at cs w (grammar.text _ _ _ v span is) =
         let (low, high) = text_starts at cs v span is in
         scalar_once at (at + length cs) span v low high
-    value_once depth at cs w (grammar.word _ _ _ v is) =
-        let some = some_bytes depth at cs w (grammar.word depth at cs v is) in
+    value_once depth at cs w (grammar.token _ _ _ v is) =
+        let some = some_bytes depth at cs w (grammar.token depth at cs v is) in
         scalar_once at (at + length cs) (span_of at (length cs)) v (omega arith) (omega arith)
     value_once depth at cs w (grammar.array depth' _ cs' ws is) =
         let span = span_of at (length (91 ∷ cs')) in
@@ -208,14 +208,14 @@ module _ (x : ℕ) where
         (wider start (start + length cs') at (at + length cs) (weight x (written_value w)) (omega arith) (omega arith)
         (value_once depth start cs' w is))
 
-  expression_once : (at : ℕ) (cs : List ℕ) (e : Expression) → IsExpression at cs e
+  expression_once : (at : ℕ) (cs : List ℕ) (e : TomlExpression) → IsExpression at cs e
       → IsOnce at (at + length cs) (assigned_weight x e)
   expression_once at cs e (grammar.table spaces cs' after path are_spaces is_key are_after) = none at (at + length cs)
   expression_once at cs e (grammar.array_of_tables spaces cs' after path are_spaces is_key are_after) =
       none at (at + length cs)
   expression_once at cs e (grammar.assignment _ a is) = assignment_once depth_limit at cs a is
 
-  line_once : (at : ℕ) (cs : List ℕ) (es : List Expression) → IsLine at cs es
+  line_once : (at : ℕ) (cs : List ℕ) (es : List TomlExpression) → IsLine at cs es
       → IsOnce at (at + length cs) (document_weight x es)
   line_once at cs es (grammar.blank spaces comment are_spaces is) = none at (at + length cs)
   line_once at cs es (grammar.says spaces cs' after comment e are_spaces is are_after is_comment) =
@@ -226,12 +226,12 @@ module _ (x : ℕ) where
       (both start (start + length cs') (start + length cs') (assigned_weight x e) 0 (omega arith) (omega arith)
       (expression_once start cs' e is) (none (start + length cs') (start + length cs')))
 
-  document_weight-append : (es fs : List Expression) → document_weight x (es ++ fs) ≡ document_weight x es +
+  document_weight-append : (es fs : List TomlExpression) → document_weight x (es ++ fs) ≡ document_weight x es +
       document_weight x fs
   document_weight-append [] fs = omega arith
   document_weight-append (e ∷ es) fs = omega (arith, document_weight-append es fs)
 
-  lines_once : (at : ℕ) (cs : List ℕ) (es : List Expression) → AreLines at cs es
+  lines_once : (at : ℕ) (cs : List ℕ) (es : List TomlExpression) → AreLines at cs es
       → IsOnce at (at + length cs) (document_weight x es)
   lines_once at cs es (grammar.last _ _ _ is) = line_once at cs es is
   lines_once at cs es (grammar.more _ cs' end rest fs gs is is_end others) =
@@ -245,7 +245,7 @@ module _ (x : ℕ) where
       (wider at (at + length cs') at next (document_weight x fs) (omega arith) (omega arith) (line_once at cs' fs is))
       (lines_once next rest gs others)))
 
-pub tree_apart : (text : List ℕ) (es : List Expression) (span : Span) (v : Value) → IsDocumentOf text es
+pub tree_apart : (text : List ℕ) (es : List TomlExpression) (span : Span) (v : Value) → IsDocumentOf text es
     → v ≡ tree span es → AreApart v
 tree_apart text es span v of exact =
     subst AreApart (sym exact)

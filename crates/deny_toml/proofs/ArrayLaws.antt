@@ -2,13 +2,13 @@
 use Rattle.std.proofs.Common.{◌≡◌, ℕ, suc, ◌+◌, List, [], ◌∷◌, ◌++◌, length, append_assoc, append-nil, refl, sym, ap}
 use Rattle.std.proofs.Common.{subst, ◌∙◌, arith}
 use Rattle.std.specs.Fmt.{decimal}
-use Rattle.deny_toml.specs.declared.error.ConfigFault.{ConfigFault}
+use Rattle.deny_toml_tree.specs.declared.error.ConfigFault.{ConfigFault}
 use Rattle.deny_toml_tree.specs.declared.value.Value.{Value}
-use Rattle.deny_toml.specs.Faults.{under}
+use Rattle.deny_toml_tree.specs.Faults.{under}
 use Rattle.deny_toml.specs.Deserialize.{faults_from, ReadsEach}
 use Rattle.deny_toml.specs.private.Deserialize.{Adds}
 
-pub faults_from-push : (faults_of : Value → List ConfigFault) (vs : List Value) (v : Value) (index : ℕ)
+faults_from-push : (faults_of : Value → List ConfigFault) (vs : List Value) (v : Value) (index : ℕ)
     → faults_from faults_of index (vs ++ v ∷ []) ≡ faults_from faults_of index vs ++ under (decimal (index + length vs))
     (faults_of v)
 faults_from-push faults_of [] v index =
@@ -22,7 +22,7 @@ faults_from-push faults_of (w ∷ vs) v index =
     ∙ ap (λ n. (under (decimal index) (faults_of w) ++ faults_from faults_of (index + 1) vs) ++ under (decimal n)
     (faults_of v)) next
 
-pub ReadsEach-push : {T : Type 0} (Reads : Value → T → Type 0) (vs : List Value) (xs : List T) (v : Value) (x : T)
+ReadsEach-push : {T : Type 0} (Reads : Value → T → Type 0) (vs : List Value) (xs : List T) (v : Value) (x : T)
     → ReadsEach Reads vs xs → Reads v x → ReadsEach Reads (vs ++ v ∷ []) (xs ++ x ∷ [])
 ReadsEach-push Reads [] [] v x each one = (one, tt)
 ReadsEach-push Reads [] (y ∷ xs) v x each one = absurd each
@@ -41,7 +41,7 @@ pub under-none : (name : List ℕ) (faults : List ConfigFault) → under name fa
 under-none name [] e = refl
 under-none name (f ∷ fs) e = cc e
 
--- the turn of the loop that reads one element
+-- the step of the loop that reads one element
 pub read_more : {T : Type 0} (faults_of : Value → List ConfigFault) (Reads : Value → T → Type 0) (vs : List Value)
     (index : ℕ) (v : Value)
     (kept faults : List ConfigFault) (items more : List T) → faults ≡ kept ++ under (decimal index) (faults_of v)

@@ -1,10 +1,10 @@
 pub use Rattle.deny_toml_tree.proofs.ClashLaws
 pub use Rattle.deny_toml_tree.proofs.TreeValues
 pub use Rattle.deny_toml_tree.proofs.TreeOrderLaws
-pub use Rattle.deny_toml_tree.proofs.TreeCases
+pub use Rattle.deny_toml_tree.proofs.TreeRows
 pub use Rattle.deny_toml_tree.proofs.ApartLaws
 pub use Rattle.deny_toml_tree.proofs.ApartParts
-pub mod FaultLaws
+pub use Rattle.deny_toml_tree.proofs.FaultLaws
 pub mod ArrayLaws
 pub mod ApartGrammar
 pub mod ParserLaws

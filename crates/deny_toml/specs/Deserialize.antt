@@ -1,18 +1,14 @@
--- What is read from a value, and the faults of a value that is read as one type or another.
+-- The value that each type reads, and the faults of a value that is read as the type.
 use Rattle.std.specs.Prelude.{ℕ, ◌+◌, ◌^◌, ℤ, pos, negsuc, List, [], ◌∷◌, ◌++◌, Option, None, Some, nat_lt, ⊤}
 use Rattle.std.specs.Prelude.{if◌then◌else◌}
 use Rattle.std.specs.Fmt.{decimal}
-use Rattle.deny_toml.specs.declared.error.ConfigFault.{ConfigFault}
+use Rattle.deny_toml_tree.specs.declared.error.ConfigFault.{ConfigFault}
 use Rattle.deny_toml_tree.specs.declared.value.Value.{Value}
 use Rattle.deny_toml_tree.specs.Value.{span_in}
-use Rattle.deny_toml.specs.Faults.{wrong_kind, unreadable, under, in_order}
+use Rattle.deny_toml_tree.specs.Faults.{wrong_kind, unreadable, under, in_order}
+pub use Rattle.deny_toml_tree.specs.Faults.{faults_of_kind}
 
--- a value of the kind that is read has no fault
-abbrev pub faults_of_kind : {A : Type 0} → Value → Option A → List ConfigFault
-faults_of_kind v None = wrong_kind (span_in v)
-faults_of_kind v (Some x) = []
-
--- a number that is read as a `u32` is not negative, and below 2 ^ 32
+-- the number that is read as a `u32`: not negative, and below 2 ^ 32
 abbrev pub small_number : ℤ → Option ℕ
 small_number (pos n) = if nat_lt n (2 ^ 32) then Some n else None
 small_number (negsuc n) = None
@@ -25,7 +21,7 @@ abbrev pub faults_of_small : Value → Option ℤ → List ConfigFault
 faults_of_small v None = wrong_kind (span_in v)
 faults_of_small v (Some n) = faults_of_number v (small_number n)
 
--- the elements of an array from an index on: each one's faults are under its index
+-- the faults of the elements of an array from an index on, each under its index
 abbrev pub faults_from : (Value → List ConfigFault) → ℕ → List Value → List ConfigFault
 faults_from faults_of index [] = []
 faults_from faults_of index (v ∷ vs) = under (decimal index) (faults_of v) ++ faults_from faults_of (index + 1) vs

@@ -1,35 +1,34 @@
-//! What can be read from a value of a TOML text.
-ghost use Rattle.std.specs.Prelude.{◌≡◌, ◌∷◌, ◌++◌, [], IfOk, IfErr, OnOk, List, None, Some, option_and_then};
-ghost use Rattle.deny_toml.specs.declared.error.ConfigFault.{ConfigFault};
+//! The types that can be read from a value of a TOML text.
+ghost use Rattle.std.specs.Prelude.{◌≡◌, ◌++◌, [], IfOk, IfErr, OnOk, List, None, Some, option_and_then};
+ghost use Rattle.deny_toml_tree.specs.declared.error.ConfigFault.{ConfigFault};
 ghost use Rattle.deny_toml_tree.specs.declared.value.Value.{Value};
 ghost use Rattle.deny_toml_tree.specs.Value.{span_in};
 ghost use Rattle.deny_toml_tree.specs.Calls.{array_in, text_in, bool_in, integer_in};
-ghost use Rattle.deny_toml.specs.Faults.{Reports, under, in_order};
+ghost use Rattle.deny_toml_tree.specs.Faults.{Reports, under, in_order};
 ghost use Rattle.std.specs.Fmt.{decimal};
 ghost use Rattle.deny_toml.specs.Deserialize.{faults_of_kind, faults_of_small, faults_of_array};
 ghost use Rattle.deny_toml.specs.Deserialize.{small_number, ReadsArray, ReadsEach, faults_from};
 ghost use Rattle.deny_toml.specs.private.Deserialize.{Adds};
 
-use crate::error::{ConfigFault, DeserError};
-use crate::faults::{keep_faults, put_faults_in_order, put_under};
 use deny_base::Spanned;
-use deny_lists::{List, NoMemory, Text};
-use deny_toml_grammar::{CowStr, Scalar};
-use deny_toml_tree::{Content, Value};
+use deny_base_lists::{List, NoMemory, Text};
+use deny_toml_tree::{
+    ConfigFault, Content, DeserError, Value, keep_faults, put_faults_in_order, put_under,
+};
 use std::alloc::Global;
 use std::mem;
 
 /// A type that is read from a value.
 ///
 /// `faults_of` gives all faults of a value that is read as this type, in ascending order of span,
-/// kind and key, and none where it can be read. `reads` says what is read from a value without
-/// faults. What is read may be moved out of the value.
+/// kind and key, and none where it can be read. `reads` relates a value without faults to what is
+/// read from it, which may be moved out of the value.
 pub trait Deserialize: Sized {
     ghost reads: { Value → Self → Type 0 };
 
     ghost faults_of: { Value → List ConfigFault };
 
-    /// Reads the value. Answers `Faults` exactly where it has some, with all of them.
+    /// Reads the value. Returns `Faults` exactly where it has some, with all of them.
     fn deserialize(alloc: Global, value: &mut Value<'_>) -> Result<Self, DeserError>
         ensures ok { IfOk result (λ x. (faults_of value.old ≡ []) × reads value.old x) }
         ensures faults { IfErr result (Reports (faults_of value.old)) };
@@ -41,22 +40,7 @@ impl Deserialize for Text {
     ghost faults_of = { λ v. faults_of_kind v (text_in v) };
 
     fn deserialize(alloc: Global, value: &mut Value<'_>) -> Result<Text, DeserError> {
-        take_string(alloc, value)
-    }
-}
-
-/// Takes the string out of a value. A value of another kind stays as it is, and is the one fault.
-pub fn take_string(alloc: Global, value: &mut Value<'_>) -> Result<Text, DeserError>
-    ensures ok { IfOk result (λ text. text_in value.old ≡ Some text) }
-    ensures faults { IfErr result (Reports (faults_of_kind value.old (text_in value.old))) }
-    ensures stays { text_in value.old ≡ None → value.new ≡ value.old }
-{
-    match &mut value.content {
-        Content::Scalar(Scalar::Text(text) | Scalar::Multiline(text)) => {
-            let text = mem::replace(text, CowStr::borrowed(""));
-            Ok(text.into_text(alloc)?)
-        }
-        _ => Err(DeserError::wrong_kind(alloc, value.span)),
+        value.take_string(alloc)
     }
 }
 
@@ -128,7 +112,7 @@ impl<T: Deserialize> Deserialize for Spanned<T> {
     }
 }
 
-/// The elements of an array, in order. Their faults stand under their indices, from 0.
+/// The elements of an array, in order. The key of their faults begins with their index, from 0.
 impl<T: Deserialize + Drop> Deserialize for List<T> {
     ghost reads = { λ v items. ReadsArray T.reads (array_in v) items };
 
@@ -146,7 +130,7 @@ impl<T: Deserialize + Drop> Deserialize for List<T> {
     }
 }
 
-#[tactic(auto, using(crate::proofs::FaultLaws::in_order_ascends))]
+#[tactic(auto, using(deny_toml_tree::proofs::FaultLaws::in_order_ascends))]
 fn read_elements<T: Deserialize + Drop>(
     alloc: Global,
     elements: List<Value<'_>>,
@@ -164,7 +148,7 @@ fn read_elements<T: Deserialize + Drop>(
     }
 }
 
-/// Reads the elements, and gathers the faults of those that cannot be read.
+/// Reads the elements, and collects the faults of those that cannot be read.
 fn read_each<T: Deserialize + Drop>(
     alloc: Global,
     elements: List<Value<'_>>,
@@ -182,7 +166,7 @@ fn read_each<T: Deserialize + Drop>(
     Ok((items, faults))
 }
 
-/// Reads one element into `items`, or puts its faults to the others.
+/// Reads one element into `items`, or adds its faults to the others.
 fn read_element<T: Deserialize + Drop>(
     alloc: Global,
     index: usize,
@@ -200,7 +184,7 @@ fn read_element<T: Deserialize + Drop>(
     }
 }
 
-/// Reads an element, and lets go of what is not moved out of it.
+/// Reads an element, and drops what is not moved out of it.
 fn read_whole<T: Deserialize>(alloc: Global, element: Value<'_>) -> Result<T, DeserError>
     ensures ok { IfOk result (λ item. (T.faults_of element.entry ≡ []) × T.reads element.entry item) }
     ensures faults { IfErr result (Reports (T.faults_of element.entry)) }
@@ -209,7 +193,7 @@ fn read_whole<T: Deserialize>(alloc: Global, element: Value<'_>) -> Result<T, De
     T::deserialize(alloc, &mut element)
 }
 
-/// Puts the faults of the element at an index to the others.
+/// Adds the faults of the element at an index to the others.
 fn keep_under_index(
     alloc: Global,
     index: usize,

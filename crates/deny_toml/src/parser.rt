@@ -1,7 +1,7 @@
 //! The reader of whole texts.
-ghost use Rattle.std.specs.Prelude.{◌≡◌, ◌^◌, ◌<◌, ◌≤◌, length, IfOk, IfErr};
+ghost use Rattle.std.specs.Prelude.{◌≡◌, ◌^◌, ◌<◌, length, IfOk, IfErr};
 ghost use Rattle.std.specs.Str.{IsCharBoundary};
-ghost use Rattle.deny_toml_tree.specs.Ranges.{IsRange, StandsIn};
+ghost use Rattle.deny_toml_tree.specs.Spans.{IsSpan, OccursIn};
 ghost use Rattle.deny_toml_tree.specs.TreeOrder.{IsOrderly};
 ghost use Rattle.deny_toml_tree.specs.Apart.{AreApart};
 ghost use Rattle.deny_toml.specs.Parser.{IsDocumentOf, IsTreeOf, IsCauseOf, LiesIn};
@@ -9,22 +9,22 @@ ghost use Rattle.deny_toml.specs.Parser as spec;
 
 use crate::error::{TomlError, TomlKind};
 use deny_base::Span;
-use deny_lists::List;
-use deny_toml_grammar::{Expression, ReadError, read_document};
+use deny_base_lists::List;
+use deny_toml_grammar::{ReadError, TomlExpression, read_document};
 use deny_toml_tree::{Value, first_clash, tree_of};
 use std::alloc::Global;
 
 /// The tree of a text.
 ///
-/// A text outside the grammar, or in which arrays, inline tables or keys go past their limits, is a
-/// `Grammar` fault where the reading stops. Else the first key that defines what stands already is
-/// a `Clash`. The tree borrows what stands in the text as it is, and no two scalars of it begin at one
+/// A text outside the grammar, or in which arrays, inline tables or keys exceed their limits, is a
+/// `Grammar` fault where the reading stops. Else the first key that defines something a second time
+/// is a `Clash`. The tree borrows from the text where it can, and no two scalars of it begin at one
 /// offset.
 pub fn parse<'t>(alloc: Global, text: &'t str) -> Result<Value<'t>, TomlError>
     requires small { length text.now < 2 ^ 28 }
     ensures tree { IfOk result (IsTreeOf text.now) }
     ensures cause { IfErr result (IsCauseOf text.now) }
-    ensures stands { IfOk result (StandsIn text.now) }
+    ensures holds { IfOk result (OccursIn text.now) }
     ensures ordered { IfOk result IsOrderly }
     ensures apart { IfOk result AreApart }
     ensures lies { IfErr result (LiesIn text.now) }
@@ -40,7 +40,7 @@ pub fn parse<'t>(alloc: Global, text: &'t str) -> Result<Value<'t>, TomlError>
 }
 
 /// The headers and assignments of a text.
-fn expressions<'t>(alloc: Global, text: &'t str) -> Result<List<Expression<'t>>, TomlError>
+fn expressions<'t>(alloc: Global, text: &'t str) -> Result<List<TomlExpression<'t>>, TomlError>
     requires small { length text.now < 2 ^ 28 }
     ensures document { IfOk result (IsDocumentOf text.now) }
     ensures cause { IfErr result (IsCauseOf text.now) }
@@ -56,10 +56,10 @@ fn expressions<'t>(alloc: Global, text: &'t str) -> Result<List<Expression<'t>>,
     }
 }
 
-/// The offset before the last `left` bytes.
+/// The empty span before the last `left` bytes.
 fn stop(text: &str, left: usize) -> Span
     requires small { length text.now < 2 ^ 28 }
-    ensures { IsRange text.now result }
+    ensures { IsSpan text.now result }
 {
     let offset = boundary(text, text.len().saturating_sub(left)) as u32;
     Span {
@@ -68,7 +68,7 @@ fn stop(text: &str, left: usize) -> Span
     }
 }
 
-/// The offset, or the start of the text where it is no offset between characters.
+/// The offset, or the start of the text where it is no character boundary.
 fn boundary(text: &str, offset: usize) -> usize
     ensures { IsCharBoundary text.now result }
 {
@@ -79,7 +79,7 @@ fn boundary(text: &str, offset: usize) -> usize
     }
 }
 
-/// The range of the whole text.
+/// The span of the whole text.
 fn whole(text: &str) -> Span
     requires small { length text.now < 2 ^ 28 }
     ensures { result ≡ spec.whole text.now }

@@ -1,27 +1,28 @@
 ghost use Rattle.std.specs.Prelude.{◌≡◌, ◌++◌, ◌∷◌, [], IfOk, IfErr, OnOk, Some, None, map};
 ghost use Rattle.deny_toml_tree.specs.Value.{span_in, table_with};
 ghost use Rattle.deny_toml_tree.specs.Calls.{table_in, entry_at, value_at, without};
-ghost use Rattle.deny_toml.specs.Faults.{Reports, under, fault_at};
+ghost use Rattle.deny_toml_tree.specs.Faults.{Reports, under, fault_at};
 ghost use Rattle.deny_toml.specs.Deserialize.{faults_of_kind};
 ghost use Rattle.deny_toml.specs.TableHelper.{required_faults, optional_faults, ReadsRequired};
 ghost use Rattle.deny_toml.specs.TableHelper.{ReadsOptional, table_faults, unknown};
 
 use crate::deserialize::Deserialize;
-use crate::error::{ConfigFault, DeserError, FaultKind};
-use crate::faults::{keep_faults, put_faults_in_order, put_under};
 use deny_base::{Span, Spanned};
-use deny_lists::{List, NoMemory, Text};
+use deny_base_lists::{List, NoMemory, Text};
 use deny_toml_grammar::Key;
-use deny_toml_tree::{Content, Value, index_named};
+use deny_toml_tree::{
+    ConfigFault, Content, DeserError, FaultKind, Value, index_named, keep_faults,
+    put_faults_in_order, put_under,
+};
 use std::alloc::Global;
 use std::mem;
 
-/// Reads a table key by key, and gathers what is wrong with it: `required` and `optional` take a
-/// key out and read its value, and `finalize` answers the faults, among them each key that is left.
+/// Reads a table key by key, and collects what is wrong with it: `required` and `optional` take a
+/// key out and read its value, and `finalize` reports the faults, among them each key that is left.
 #[derive(Drop)]
 pub struct TableHelper<'t> {
     alloc: Global,
-    /// Where the table stands.
+    /// The span of the table.
     pub span: Span,
     /// The keys that are left, with their values.
     pub entries: List<(Key<'t>, Value<'t>)>,
@@ -30,7 +31,7 @@ pub struct TableHelper<'t> {
 }
 
 impl<'t> TableHelper<'t> {
-    /// Takes the table out of `value`. A value of another kind stays as it is, and is the one fault.
+    /// Takes the table out of `value`. A value of another kind is unchanged, and is the only fault.
     pub fn new(alloc: Global, value: &mut Value<'t>) -> Result<TableHelper<'t>, DeserError>
         ensures table { IfOk result (λ helper. table_in value.old ≡ Some (table_with helper.entries)) }
         ensures span { IfOk result (λ helper. helper.span ≡ span_in value.old) }
@@ -50,7 +51,7 @@ impl<'t> TableHelper<'t> {
         }
     }
 
-    /// Takes a key out, with its value. The time is in step with the number of keys left.
+    /// Takes a key out, with its value. The time is linear in the number of keys left.
     pub fn take(&mut self, name: &str) -> Option<(Key<'t>, Value<'t>)>
         ensures taken { result ≡ entry_at name.now self.old.entries }
         ensures left { self.new ≡ record self.old { entries = without name.now self.old.entries } }
@@ -58,8 +59,8 @@ impl<'t> TableHelper<'t> {
         take_entry(&mut self.entries, name.as_bytes())
     }
 
-    /// Takes out a key that has to be there, and reads its value. The faults are not kept: a
-    /// missing key is `Missing` at the table, and the faults of the value stand under the key.
+    /// Takes out a required key, and reads its value. The faults are not kept: a missing key is
+    /// `Missing` at the table, and the faults of the value are under the key.
     pub fn required<T: Deserialize>(&mut self, name: &str) -> Result<T, DeserError>
         ensures ok { IfOk result (ReadsRequired T.faults_of T.reads (value_at name.now self.old.entries)) }
         ensures faults { IfErr result (Reports
@@ -72,7 +73,7 @@ impl<'t> TableHelper<'t> {
         }
     }
 
-    /// The same, with the span of the value.
+    /// Does what `required` does, and returns the span of the value too.
     pub fn required_s<T: Deserialize>(&mut self, name: &str) -> Result<Spanned<T>, DeserError>
         ensures ok { IfOk result (ReadsRequired T.faults_of
             (λ v x. (x.span ≡ span_in v) × T.reads v x.value) (value_at name.now self.old.entries)) }
@@ -83,8 +84,8 @@ impl<'t> TableHelper<'t> {
         self.required::<Spanned<T>>(name)
     }
 
-    /// Takes out a key that may be left out, and reads its value. Answers None where the key is
-    /// not there, and where its value has faults: these are kept, under the key.
+    /// Takes out an optional key, and reads its value. Returns None where the key is missing, and
+    /// where its value has faults: these are kept, under the key.
     pub fn optional<T: Deserialize>(&mut self, name: &str) -> Result<Option<T>, NoMemory>
         ensures ok { IfOk result (ReadsOptional T.faults_of T.reads (value_at name.now self.old.entries)) }
         ensures kept { OnOk result (self.new ≡ record self.old {
@@ -105,7 +106,7 @@ impl<'t> TableHelper<'t> {
         }
     }
 
-    /// The same, with the span of the value.
+    /// Does what `optional` does, and returns the span of the value too.
     pub fn optional_s<T: Deserialize>(&mut self, name: &str) -> Result<Option<Spanned<T>>, NoMemory>
         ensures ok { IfOk result (ReadsOptional T.faults_of
             (λ v x. (x.span ≡ span_in v) × T.reads v x.value) (value_at name.now self.old.entries)) }
@@ -117,7 +118,7 @@ impl<'t> TableHelper<'t> {
         self.optional::<Spanned<T>>(name)
     }
 
-    /// Keeps faults that `required` answered, so that `finalize` answers them with the others.
+    /// Keeps faults that `required` returned, so that `finalize` reports them with the others.
     pub fn keep(&mut self, faults: List<ConfigFault>) -> Result<(), NoMemory>
         ensures { OnOk result (self.new ≡ record self.old { faults = self.old.faults ++ faults }) }
     {
@@ -126,7 +127,7 @@ impl<'t> TableHelper<'t> {
 
     /// Ends the reading of the table. Ok exactly where no fault was kept and no key is left: each
     /// of these is `Unknown`, at the key.
-    #[tactic(auto, using(crate::proofs::FaultLaws::in_order_ascends))]
+    #[tactic(auto, using(deny_toml_tree::proofs::FaultLaws::in_order_ascends))]
     pub fn finalize(self) -> Result<(), DeserError>
         ensures ok { OnOk result (table_faults self.entry.faults self.entry.entries ≡ []) }
         ensures faults { IfErr result (Reports (table_faults self.entry.faults self.entry.entries)) }
@@ -152,7 +153,7 @@ fn take_entry<'t>(
     Some(entries.vec.remove(index))
 }
 
-/// Reads the value of an entry, and lets go of what is not moved out of it.
+/// Reads the value of an entry, and drops what is not moved out of it.
 fn read_entry<T: Deserialize>(
     alloc: Global,
     name: &str,
@@ -165,7 +166,7 @@ fn read_entry<T: Deserialize>(
     read_under(alloc, name, &mut value)
 }
 
-/// Reads a value, whose faults stand under `name`.
+/// Reads a value, whose faults are put under `name`.
 pub(crate) fn read_under<T: Deserialize>(
     alloc: Global,
     name: &str,
@@ -181,7 +182,7 @@ pub(crate) fn read_under<T: Deserialize>(
     }
 }
 
-#[tactic(auto, using(crate::proofs::FaultLaws::single_ascends))]
+#[tactic(auto, using(deny_toml_tree::proofs::FaultLaws::single_ascends))]
 fn missing(alloc: Global, name: &str, table: Span) -> DeserError
     ensures { Reports (fault_at FaultKind.Missing name.now table ∷ []) result }
 {
@@ -191,7 +192,7 @@ fn missing(alloc: Global, name: &str, table: Span) -> DeserError
     }
 }
 
-/// The faults that were kept, and after them one of each key that is left.
+/// The faults that were kept, and after them one for each key that is left.
 fn with_unknown(
     alloc: Global,
     kept: List<ConfigFault>,
@@ -217,7 +218,7 @@ fn add_unknown(
     Ok(())
 }
 
-/// The fault of a key that nothing has read.
+/// The fault of a key that was not read.
 fn unknown(alloc: Global, entry: &(Key<'_>, Value<'_>)) -> Result<ConfigFault, NoMemory>
     ensures { IfOk result (λ fault. fault ≡ unknown entry.now) }
 {

@@ -8,16 +8,16 @@ use Rattle.std.specs.List.{prefix_len, list_all}
 use Rattle.deny_toml_grammar.specs.Lexical.{first, is_space, is_comment_byte, skip_spaces, skip_turn, skip_from}
 use Rattle.deny_toml_grammar.specs.GrammarStrings.{AreSpaces, IsNewline, IsBlank, IsInk}
 use Rattle.deny_toml_grammar.specs.GrammarStrings as grammar
-use Rattle.deny_lists.proofs.PrefixLemmas.{list_all-take}
+use Rattle.deny_base_lists.proofs.PrefixLemmas.{list_all-take}
 use Rattle.deny_toml_grammar.proofs.LexicalLaws.{split_while-run, skip_from-nil}
 
--- spaces are skipped up to what is none
+-- spaces before a byte that is no space are skipped
 pub skip_spaces-run : (spaces rest : List ℕ) → AreSpaces spaces → is_space (first rest) ≡ false
     → skip_spaces (spaces ++ rest) ≡ rest
 unfolding skip_spaces
 skip_spaces-run spaces rest all stop = ap (λ p. p.1) (split_while-run is_space spaces rest all stop)
 
--- what was skipped are spaces
+-- what `skip_spaces` skips are spaces
 pub skip_spaces_found : (text : List ℕ) → (spaces : List ℕ) × (text ≡ spaces ++ skip_spaces text) × AreSpaces spaces
 unfolding skip_spaces
 skip_spaces_found text = (
@@ -25,18 +25,6 @@ skip_spaces_found text = (
   sym (take-append-drop (prefix_len is_space text) text),
   list_all-take is_space text,
 )
-
--- and it stops at what is no space
-pub skip_spaces_stops : (text : List ℕ) → is_space (first (skip_spaces text)) ≡ false
-unfolding skip_spaces
-skip_spaces_stops [] = refl
-skip_spaces_stops (c ∷ cs) =
-    let next : 1 + prefix_len is_space cs ≡ suc (prefix_len is_space cs) = omega arith in
-    elim (cases_Bool (is_space c)) [
-      | inl space ↦ rw (space, next) (skip_spaces_stops cs)
-      | inr other ↦
-          rw (other, other)
-    ]
 
 turn_space : (comments : Bool) (c next : ℕ) → is_space c ≡ true → skip_turn comments false c next ≡ Some false
 turn_space comments c next h = grind (arith, nat_tests)
@@ -81,7 +69,7 @@ skip_from-blanks comments blanks rest (grammar.comment body end cs allowed all i
     ∙ skip_comment comments body (end ++ (cs ++ rest)) all
     ∙ skip_newline comments true end (cs ++ rest) is_end ∙ skip_from-blanks comments cs rest more
 
--- blanks are skipped up to what is none
+-- blanks are skipped up to a byte that is not blank
 pub skip_from-blank : (comments : Bool) (blanks rest : List ℕ) → IsBlank comments blanks
     → skip_from comments false rest ≡ rest → skip_from comments false (blanks ++ rest) ≡ rest
 skip_from-blank comments blanks rest is stop = skip_from-blanks comments blanks rest is ∙ stop
@@ -116,7 +104,7 @@ IsBlank-spaces comments (c ∷ spaces) cs all more =
     let (here, rest) = and_parts (is_space c) (list_all is_space spaces) all in
     grammar.space c (spaces ++ cs) here (IsBlank-spaces comments spaces cs rest more)
 
--- ink stops a run of blanks without comments
+-- text that begins with ink is not skipped where comments are not allowed
 pub skip_from-ink : (cs : List ℕ) → IsInk cs → skip_from false false cs ≡ cs
 unfolding skip_from
 skip_from-ink [] ink = refl
@@ -124,15 +112,15 @@ skip_from-ink (c ∷ cs) ink =
     let none : skip_turn false false c (first cs) ≡ None = grind (arith, nat_tests, ink.no_space, ink.no_newline) in
     rw none
 
--- what a run of blanks has skipped: blanks, or blanks and a comment that no line end closes
+-- what `skip_from` has skipped: blanks, or blanks and a comment that no line end closes
 pub data Skipped (comments : Bool) (rest : List ℕ) : List ℕ → Type 0 where
   done : (blanks : List ℕ) → IsBlank comments blanks → Skipped comments rest (blanks ++ rest)
   unclosed : (blanks body : List ℕ) → comments ≡ true → IsBlank comments blanks → list_all is_comment_byte body ≡ true
       → is_comment_byte (first rest) ≡ false
       → Skipped comments rest (blanks ++ 35 ∷ (body ++ rest))
 
--- the same from inside a comment on
-pub data SkippedInside (comments : Bool) (rest : List ℕ) : List ℕ → Type 0 where
+-- what `skip_from` has skipped where it began inside a comment
+data SkippedInside (comments : Bool) (rest : List ℕ) : List ℕ → Type 0 where
   over : (body end more : List ℕ) → list_all is_comment_byte body ≡ true → IsNewline end → Skipped comments rest more
       → SkippedInside comments rest (body ++ (end ++ more))
   still : (body : List ℕ) → list_all is_comment_byte body ≡ true → is_comment_byte (first rest) ≡ false
@@ -205,7 +193,7 @@ neither : (b x : Bool) → ((b && false) && x) ≡ false
 neither true x = refl
 neither false x = refl
 
--- any byte that begins no line end
+-- a byte that begins no line end
 turn_other : (comments inside : Bool) (c : ℕ) (cs : List ℕ) → (c == 10) ≡ false
     → ((c == 13) && (first cs == 10)) ≡ false → Turn comments inside c cs
 turn_other comments true c cs no_feed no_return =
@@ -254,8 +242,8 @@ turn comments inside c (d ∷ ds) =
       ]
     ]
 
--- what is known of a text and its run of blanks
-pub IsSkipped : Bool → List ℕ → Type 0
+-- what `skip_from` skips of a text, outside a comment and inside one
+IsSkipped : Bool → List ℕ → Type 0
 IsSkipped comments text = Skipped comments (skip_from comments false text) text
     × SkippedInside comments (skip_from comments true text) text
 
@@ -312,7 +300,7 @@ skipped_by comments (suc n) [] less = nothing_skipped comments
 skipped_by comments (suc n) (c ∷ cs) less = step comments n c cs less
     (λ text within. skipped_by comments n text (omega arith))
 
--- whatever is skipped is blank, up to a comment that no line end closes
+-- what is skipped is blank, up to a comment that no line end closes
 pub skip_from_found : (comments : Bool) (text : List ℕ) → Skipped comments (skip_from comments false text) text
 unfolding IsSkipped
 skip_from_found comments text = (skipped_by comments (suc (length text)) text (omega arith)).0
@@ -332,7 +320,7 @@ stops_by zero text less = absurd (omega arith)
 stops_by (suc n) [] less = rw (skip_from-nil false false) (record { no_space = refl; no_newline = refl })
 stops_by (suc n) (c ∷ cs) less = stops_turn c cs (λ text within. stops_by n text (omega arith)) (turn false false c cs)
 
--- where no comments are skipped it stops at ink
+-- where comments are not skipped, skipping stops at ink
 pub skip_from_stops : (text : List ℕ) → IsInk (skip_from false false text)
 skip_from_stops text = stops_by (suc (length text)) text (omega arith)
 

@@ -1,4 +1,4 @@
--- Dates and times: the test of the reader holds exactly where the grammar says.
+-- Dates and times: the test of the reader holds exactly where the grammar has them.
 use Rattle.std.proofs.Common.{◌≡◌, ℕ, zero, suc, ◌+◌, ◌-◌, ◌*◌, ◌<◌, ◌⊎◌, Bool, true, false, ◌&&◌, ◌||◌, ◌==◌, nat_le}
 use Rattle.std.proofs.Common.{List, [], ◌∷◌, length, take, drop, Option, Some, None, refl, subst, inl, inr, arith}
 use Rattle.std.proofs.Common.{drop_at}
@@ -12,13 +12,14 @@ use Rattle.deny_toml_grammar.specs.Lexical.{first}
 use Rattle.deny_toml_grammar.specs.private.Dates.{has_number, starts_date, starts_time, after_fraction, is_offset}
 use Rattle.deny_toml_grammar.specs.private.Dates.{ends_time, is_time, is_divider, is_divided_time, is_date_time}
 use Rattle.deny_toml_grammar.specs.private.Dates.{is_date}
-use Rattle.deny_toml_grammar.specs.GrammarWords.{IsTwo, StartsDate, StartsTime, IsSecondsFraction, IsOffset, IsDivider}
-use Rattle.deny_toml_grammar.specs.GrammarWords.{IsDate}
-use Rattle.deny_toml_grammar.specs.GrammarWords as grammar
+use Rattle.deny_toml_grammar.specs.GrammarScalars.{IsTwo, StartsDate, StartsTime, IsSecondsFraction, IsOffset}
+use Rattle.deny_toml_grammar.specs.GrammarScalars.{IsDivider}
+use Rattle.deny_toml_grammar.specs.GrammarScalars.{IsDate}
+use Rattle.deny_toml_grammar.specs.GrammarScalars as grammar
 use Rattle.deny_toml_grammar.proofs.LexicalLaws.{prefix_len-run}
-use Rattle.deny_lists.proofs.PrefixLemmas.{list_all-take}
-use Rattle.deny_lists.proofs.Numbers.{nat_le-true, le_from_nat_le}
-use Rattle.deny_lists.proofs.Booleans.{or-true}
+use Rattle.deny_base_lists.proofs.PrefixLemmas.{list_all-take}
+use Rattle.deny_base_lists.proofs.Numbers.{nat_le-true, le_from_nat_le}
+use Rattle.deny_base_lists.proofs.Booleans.{or-true}
 
 abbrev is_two : ℕ → ℕ → ℕ → ℕ → Bool
 is_two low high a b = (is_ascii_digit a && is_ascii_digit b) &&
@@ -26,11 +27,11 @@ is_two low high a b = (is_ascii_digit a && is_ascii_digit b) &&
 
 two-sound : (low high a b : ℕ) → is_two low high a b ≡ true → IsTwo low high a b
 two-sound low high a b e =
-    let (digits, range) = and_parts (is_ascii_digit a && is_ascii_digit b)
+    let (digits, span) = and_parts (is_ascii_digit a && is_ascii_digit b)
     (nat_le low ((a - 48) * 10 + (b - 48)) && nat_le ((a - 48) * 10 + (b - 48)) high) e in
     let (tens, ones) = and_parts (is_ascii_digit a) (is_ascii_digit b) digits in
     let (above, below) = and_parts (nat_le low ((a - 48) * 10 + (b - 48))) (nat_le ((a - 48) * 10 + (b - 48)) high)
-    range in
+    span in
     grammar.two a b tens ones (le_from_nat_le low ((a - 48) * 10 + (b - 48)) above)
     (le_from_nat_le ((a - 48) * 10 + (b - 48)) high below)
 
@@ -38,14 +39,14 @@ two-complete : (low high a b : ℕ) → IsTwo low high a b → is_two low high a
 two-complete low high a b (grammar.two _ _ tens ones above below) =
     rw (tens, ones, nat_le-true low ((a - 48) * 10 + (b - 48)) above, nat_le-true ((a - 48) * 10 + (b - 48)) high below)
 
--- two digits stand inside the text
+-- two digits at an index lie inside the text
 within_two : (cs : List ℕ) (at low high : ℕ) → has_number cs at low high ≡ true → at + 1 < length cs
 within_two cs at low high e =
     elim (cases_lt (at + 1) (length cs)) [
       | inl within ↦ within
       | inr past ↦
           let none : slice_index cs (at + 1) ≡ 0 = get_or_past cs (at + 1) 0 past in
-          let (digits, range) = and_parts (is_ascii_digit (slice_index cs at) && is_ascii_digit
+          let (digits, span) = and_parts (is_ascii_digit (slice_index cs at) && is_ascii_digit
           (slice_index cs (at + 1)))
           (nat_le low ((slice_index cs at - 48) * 10 + (slice_index cs (at + 1) - 48)) && nat_le
           ((slice_index cs at - 48) * 10 + (slice_index cs (at + 1) - 48)) high) e in
@@ -54,7 +55,7 @@ within_two cs at low high e =
           absurd (false≢true (rw none at ones))
     ]
 
--- the last digits of a date and of a time stand inside the text
+-- the last digits of a date and of a time lie inside the text
 within_day : (cs : List ℕ) → starts_date cs ≡ true → 9 < length cs
 unfolding starts_date
 within_day cs e =
@@ -184,7 +185,7 @@ fraction-complete cs rest (grammar.fraction_of_second d ds all) stop no_point =
     let some : (length (d ∷ ds) == 0) ≡ false = grind (arith, nat_tests) in
     rw (run, drop_at (d ∷ ds) rest _ refl, some)
 
--- the distance to universal time
+-- the offset from UTC
 offset-sound : (cs : List ℕ) → is_offset cs ≡ true → IsOffset cs
 offset-sound [] e = absurd (false≢true e)
 offset-sound (z ∷ []) e =
@@ -221,7 +222,7 @@ offset-complete cs (grammar.universal z which) = either_of z 90 122 which
 offset-complete cs (grammar.distance s a b c d which hours minutes) =
     rw (either_of s 43 45 which, two-complete 0 23 a b hours, two-complete 0 59 c d minutes) refl
 
--- what begins an offset continues no fraction
+-- the first byte of an offset does not continue a fraction
 offset_stops : (cs : List ℕ) → IsOffset cs → (is_ascii_digit (first cs) ≡ false) × ((first cs == 46) ≡ false)
 offset_stops cs grammar.local = (refl, refl)
 offset_stops cs (grammar.universal z (inl e)) = (grind (arith, nat_tests), grind (arith, nat_tests))
@@ -278,7 +279,7 @@ local-complete cs rest is is_fraction =
     let (starts, after) = time-complete cs rest is in
     rw (starts, after, fraction-complete rest [] is_fraction refl refl) refl
 
--- what divides a date and a time
+-- the byte between a date and a time
 divider-sound : (c : ℕ) → is_divider c ≡ true → IsDivider c
 divider-sound c e =
     elim (cases_Bool (c == 84)) [
@@ -323,7 +324,7 @@ date_time-sound cs e =
 hour_of : (cs : List ℕ) → LocalTime cs → IsDate cs
 hour_of cs (local_of rest is is_fraction) = grammar.hour cs rest is is_fraction
 
--- what is read as a date
+-- a date that the test admits is in the grammar
 pub date_is-sound : (cs : List ℕ) → is_date cs ≡ true → IsDate cs
 date_is-sound cs e =
     elim (cases_Bool (is_date_time cs)) [
@@ -353,7 +354,7 @@ moment_test c cs time_ rest offset is divides is_time_ is_fraction is_offset_ =
           offset is_time_ is_fraction is_offset_,
     ) (or-true (length cs == 10))
 
--- a date is read
+-- a date of the grammar passes the test
 pub date_is-complete : (cs : List ℕ) → IsDate cs → is_date cs ≡ true
 date_is-complete cs (grammar.day _ is) = rw (day_test cs is) refl
 date_is-complete cs (grammar.moment c _ time_ rest offset is divides is_time_ is_fraction is_offset_) =

@@ -1,4 +1,4 @@
--- Digits and numbers: the tests of the reader hold exactly where the grammar says.
+-- Digits and numbers: the tests of the reader hold exactly where the grammar has them.
 use Rattle.std.proofs.Common.{◌≡◌, ℕ, ℤ, ◌^◌, ◌≤◌, Bool, true, false, not, ◌||◌, ◌==◌, nat_lt, nat_le, List, [], ◌∷◌}
 use Rattle.std.proofs.Common.{◌++◌, length, drop, Some, None, option_and_then, refl, sym, ap, subst, ◌∙◌, inl, inr}
 use Rattle.std.proofs.Common.{arith}
@@ -11,13 +11,10 @@ use Rattle.deny_toml_grammar.specs.Lexical.{first}
 use Rattle.deny_toml_grammar.specs.Numbers.{groups, digits_alone, bounded_value, signed, is_decimal, are_digits}
 use Rattle.deny_toml_grammar.specs.Numbers.{is_decimal_digit, radix_of, prefixed_integer, decimal_integer, integer}
 use Rattle.deny_toml_grammar.specs.Numbers.{without_sign, has_sign}
-use Rattle.deny_toml_grammar.specs.GrammarWords.{IsDigits, IsDecimal, IsSign, IsInteger, number_of}
-use Rattle.deny_toml_grammar.specs.GrammarWords as grammar
+use Rattle.deny_toml_grammar.specs.GrammarScalars.{IsDigits, IsDecimal, IsSign, IsInteger, number_of}
+use Rattle.deny_toml_grammar.specs.GrammarScalars as grammar
 
-abbrev digit : ℕ → ℕ → Bool
-digit radix c = is_digit c radix
-
--- what stands after a digit: nothing, further digits, or an underscore and digits
+-- what follows a digit: nothing, more digits, or an underscore and digits
 data AfterDigit (radix : ℕ) : List ℕ → Type 0 where
   nothing : AfterDigit radix []
   digits : (cs : List ℕ) → IsDigits radix cs → AfterDigit radix cs
@@ -59,7 +56,7 @@ digits-complete radix after cs small (grammar.spaced c cs' here is) =
     let no_digit : is_digit 95 radix ≡ false = grind (arith, nat_tests) in
     rw (here, no_digit) (digits-complete radix false cs' small is)
 
--- the digits alone are digits
+-- digits without their underscores are digits
 digits_alone-pass : (radix : ℕ) (cs : List ℕ) → radix ≤ 16 → IsDigits radix cs
     → list_all (λ c. is_digit c radix) (digits_alone cs) ≡ true
 digits_alone-pass radix cs small (grammar.one c here) = let other : (c == 95) ≡ false =
@@ -82,7 +79,7 @@ bounded_none : (radix : ℕ) (cs : List ℕ) → list_all (λ c. is_digit c radi
     → nat_le (number_of radix cs) (2 ^ 63) ≡ false → bounded_value radix cs ≡ None
 bounded_none radix cs all large = rw (all, large)
 
--- the number of digits, with its sign
+-- the value of digits, with a sign
 bounded_is : (radix : ℕ) (negative : Bool) (cs : List ℕ) → radix ≤ 16 → IsDigits radix cs
     → option_and_then (signed negative) (bounded_value radix cs) ≡ signed negative (number_of radix cs)
 bounded_is radix negative cs small is =
@@ -123,7 +120,7 @@ decimal-complete cs (grammar.several c cs' other is) =
     either true = refl
     either false = refl
 
--- what begins a decimal number
+-- a decimal number begins with a digit
 pub decimal_first : (cs : List ℕ) → IsDecimal cs → is_digit (first cs) 10 ≡ true
 decimal_first cs (grammar.single c here) = here
 decimal_first cs (grammar.several c cs' other (grammar.one _ here)) = here
@@ -134,7 +131,7 @@ decimal_first cs (grammar.several c cs' other (grammar.spaced _ _ here is)) = he
 pub data SignPrefix : List ℕ → List ℕ → Bool → Type 0 where
   sign_prefix : (sign rest : List ℕ) (negative : Bool) → IsSign sign negative → SignPrefix (sign ++ rest) rest negative
 
-pub sign-sound : (word : List ℕ) → SignPrefix word (without_sign word) (first word == 45)
+pub sign-sound : (token : List ℕ) → SignPrefix token (without_sign token) (first token == 45)
 sign-sound [] = sign_prefix [] [] false grammar.none
 sign-sound (c ∷ cs) =
     elim (cases_Bool (c == 43)) [
@@ -149,7 +146,7 @@ sign-sound (c ∷ cs) =
       ]
     ]
 
--- a sign is taken away, where no other sign follows
+-- a sign is removed where no second sign follows
 pub sign-complete : (sign rest : List ℕ) (negative : Bool) → IsSign sign negative → has_sign rest ≡ false
     → (without_sign (sign ++ rest) ≡ rest) × ((first (sign ++ rest) == 45) ≡ negative)
 sign-complete sign rest negative grammar.none none_ = (rw none_ refl, no_minus rest none_)
@@ -183,21 +180,21 @@ prefixed_integer-sound radix cs z small e =
       | inr bad ↦ absurd (none-some z (rw bad at e))
     ]
 
-decimal_found : (word rest : List ℕ) (negative : Bool) (z : ℤ) → SignPrefix word rest negative
-    → decimal_integer negative rest ≡ Some z → IsInteger word z
-decimal_found word rest negative z (sign_prefix sign _ _ is_sign) e =
+decimal_found : (token rest : List ℕ) (negative : Bool) (z : ℤ) → SignPrefix token rest negative
+    → decimal_integer negative rest ≡ Some z → IsInteger token z
+decimal_found token rest negative z (sign_prefix sign _ _ is_sign) e =
     let (is, value_is) = decimal_integer-sound negative rest z e in
     grammar.decimal sign rest negative z is_sign is value_is
 
-integer_decimal : (word : List ℕ) → radix_of word ≡ 10 → integer word ≡ decimal_integer (first word == 45)
-    (without_sign word)
+integer_decimal : (token : List ℕ) → radix_of token ≡ 10 → integer token ≡ decimal_integer (first token == 45)
+    (without_sign token)
 unfolding integer
-integer_decimal word ten = rw ten
+integer_decimal token ten = rw ten
 
-integer_prefixed : (word : List ℕ) (radix : ℕ) → radix_of word ≡ radix → (radix == 10) ≡ false
-    → integer word ≡ prefixed_integer radix (drop 2 word)
+integer_prefixed : (token : List ℕ) (radix : ℕ) → radix_of token ≡ radix → (radix == 10) ≡ false
+    → integer token ≡ prefixed_integer radix (drop 2 token)
 unfolding integer
-integer_prefixed word radix is other = rw (is, other)
+integer_prefixed token radix is other = rw (is, other)
 
 prefixed_found : (d : ℕ) (cs : List ℕ) (z : ℤ) → integer (48 ∷ (d ∷ cs)) ≡ Some z → IsInteger (48 ∷ (d ∷ cs)) z
 prefixed_found d cs z e =
@@ -220,19 +217,19 @@ prefixed_found d cs z e =
               (sym (integer_prefixed (48 ∷ (d ∷ cs)) 2 (rw (not_hex, not_oct, bin)) refl) ∙ e) in
               subst (λ x. IsInteger (48 ∷ (x ∷ cs)) z) (sym d_is) (grammar.binary cs z is value_is)
           | inr not_bin ↦
-              let word = 48 ∷ (d ∷ cs) in
-              decimal_found word (without_sign word) (first word == 45) z (sign-sound word)
-              (sym (integer_decimal word (rw (not_hex, not_oct, not_bin))) ∙ e)
+              let token = 48 ∷ (d ∷ cs) in
+              decimal_found token (without_sign token) (first token == 45) z (sign-sound token)
+              (sym (integer_decimal token (rw (not_hex, not_oct, not_bin))) ∙ e)
         ]
       ]
     ]
 
-other_found : (word : List ℕ) (z : ℤ) → radix_of word ≡ 10 → integer word ≡ Some z → IsInteger word z
-other_found word z ten e = decimal_found word (without_sign word) (first word == 45) z (sign-sound word)
-    (sym (integer_decimal word ten) ∙ e)
+other_found : (token : List ℕ) (z : ℤ) → radix_of token ≡ 10 → integer token ≡ Some z → IsInteger token z
+other_found token z ten e = decimal_found token (without_sign token) (first token == 45) z (sign-sound token)
+    (sym (integer_decimal token ten) ∙ e)
 
--- what is read as an integer
-pub integer-sound : (word : List ℕ) (z : ℤ) → integer word ≡ Some z → IsInteger word z
+-- an integer that is read is in the grammar
+pub integer-sound : (token : List ℕ) (z : ℤ) → integer token ≡ Some z → IsInteger token z
 integer-sound [] z e = other_found [] z refl e
 integer-sound (c ∷ []) z e = elim (cases_Bool (c == 48)) [
   | inl zero_ ↦ other_found (c ∷ []) z (rw zero_) e
@@ -271,15 +268,15 @@ decimal_radix sign cs negative grammar.none (grammar.single c here) =
 decimal_radix sign cs negative grammar.none (grammar.several c cs' other is) =
     elim (cases_Bool (c == 48)) [ inl zero_ ↦ absurd (other (grind (arith, nat_tests))) | inr good ↦ rw good ]
 
--- an integer is read
-pub integer-complete : (word : List ℕ) (z : ℤ) → IsInteger word z → integer word ≡ Some z
-integer-complete word z (grammar.decimal sign cs negative _ is_sign is value_is) =
+-- an integer of the grammar is read
+pub integer-complete : (token : List ℕ) (z : ℤ) → IsInteger token z → integer token ≡ Some z
+integer-complete token z (grammar.decimal sign cs negative _ is_sign is value_is) =
     let (rest_is, minus_is) = sign-complete sign cs negative is_sign (no_sign cs (decimal_first cs is)) in
     integer_decimal (sign ++ cs) (decimal_radix sign cs negative is_sign is)
     ∙ rw (rest_is, minus_is) (decimal_integer-complete negative cs is ∙ value_is)
-integer-complete word z (grammar.hexadecimal cs _ is value_is) = integer_prefixed (48 ∷ (120 ∷ cs)) 16 refl refl
+integer-complete token z (grammar.hexadecimal cs _ is value_is) = integer_prefixed (48 ∷ (120 ∷ cs)) 16 refl refl
     ∙ prefixed_integer-complete 16 cs (omega arith) is ∙ value_is
-integer-complete word z (grammar.octal cs _ is value_is) = integer_prefixed (48 ∷ (111 ∷ cs)) 8 refl refl
+integer-complete token z (grammar.octal cs _ is value_is) = integer_prefixed (48 ∷ (111 ∷ cs)) 8 refl refl
     ∙ prefixed_integer-complete 8 cs (omega arith) is ∙ value_is
-integer-complete word z (grammar.binary cs _ is value_is) = integer_prefixed (48 ∷ (98 ∷ cs)) 2 refl refl
+integer-complete token z (grammar.binary cs _ is value_is) = integer_prefixed (48 ∷ (98 ∷ cs)) 2 refl refl
     ∙ prefixed_integer-complete 2 cs (omega arith) is ∙ value_is

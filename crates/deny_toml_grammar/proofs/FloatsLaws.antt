@@ -1,4 +1,4 @@
--- Floats: the test of the reader holds exactly where the grammar says.
+-- Floats: the test of the reader holds exactly where the grammar has them.
 use Rattle.std.proofs.Common.{◌≡◌, ℕ, ◌⊎◌, Bool, true, false, ◌||◌, ◌==◌, List, [], ◌∷◌, ◌++◌, length, take, drop, refl}
 use Rattle.std.proofs.Common.{sym, ap, subst, ◌∙◌, inl, inr, arith, append-nil, take_at, drop_at}
 use Rattle.std.proofs.lemmas.Bool.{cases_Bool, and_parts, false≢true}
@@ -11,8 +11,8 @@ use Rattle.std.specs.Str.{bytes_eq}
 use Rattle.deny_toml_grammar.specs.Lexical.{first, is_grouped}
 use Rattle.deny_toml_grammar.specs.Numbers.{are_digits, is_decimal_digit, is_decimal, without_sign, is_exponent}
 use Rattle.deny_toml_grammar.specs.Numbers.{is_exponent_or_end, are_decimals, is_fraction, is_unsigned_float, is_float}
-use Rattle.deny_toml_grammar.specs.GrammarWords.{IsDigits, IsDecimal, IsSign, IsExponent, IsFloat}
-use Rattle.deny_toml_grammar.specs.GrammarWords as grammar
+use Rattle.deny_toml_grammar.specs.GrammarScalars.{IsDigits, IsDecimal, IsSign, IsExponent, IsFloat}
+use Rattle.deny_toml_grammar.specs.GrammarScalars as grammar
 use Rattle.deny_toml_grammar.proofs.LexicalLaws.{prefix_len-run}
 use Rattle.deny_toml_grammar.proofs.DigitsLaws.{SignPrefix, sign_prefix, sign-sound, sign-complete, digits-sound}
 use Rattle.deny_toml_grammar.proofs.DigitsLaws.{digits-complete, decimal-sound, decimal-complete, decimal-digits}
@@ -64,7 +64,7 @@ grouped_all cs (grammar.more c cs' here is) = let grouped : is_grouped c ≡ tru
 grouped_all cs (grammar.spaced c cs' here is) = let grouped : is_grouped c ≡ true =
     grind (arith, nat_tests) in rw grouped (grouped_all cs' is)
 
-pub exponent_stops : (cs : List ℕ) → IsExponent cs → is_grouped (first cs) ≡ false
+exponent_stops : (cs : List ℕ) → IsExponent cs → is_grouped (first cs) ≡ false
 exponent_stops cs (grammar.exponent c sign digits negative (inl e) is_sign is) = grind (arith, nat_tests)
 exponent_stops cs (grammar.exponent c sign digits negative (inr e) is_sign is) = grind (arith, nat_tests)
 
@@ -146,15 +146,15 @@ unsigned_float sign cs negative is_sign (pointed whole decimals is (with_exponen
 unsigned_float sign cs negative is_sign (scaled whole scale is is_scale) =
     grammar.scaled sign whole scale negative is_sign is is_scale
 
-float_found : (word rest : List ℕ) (negative : Bool) → SignPrefix word rest negative → Unsigned rest → IsFloat word
-float_found word rest negative (sign_prefix sign _ _ is_sign) is = unsigned_float sign rest negative is_sign is
+float_found : (token rest : List ℕ) (negative : Bool) → SignPrefix token rest negative → Unsigned rest → IsFloat token
+float_found token rest negative (sign_prefix sign _ _ is_sign) is = unsigned_float sign rest negative is_sign is
 
--- what is read as a float
-pub float-sound : (word : List ℕ) → is_float word ≡ true → IsFloat word
-float-sound word e = float_found word (without_sign word) (first word == 45) (sign-sound word)
-    (unsigned-sound (without_sign word) e)
+-- a float that is read is in the grammar
+pub float-sound : (token : List ℕ) → is_float token ≡ true → IsFloat token
+float-sound token e = float_found token (without_sign token) (first token == 45) (sign-sound token)
+    (unsigned-sound (without_sign token) e)
 
--- a number begins with no letter of `inf` or `nan`
+-- a number does not begin with a letter of `inf` or `nan`
 pub not_special : (cs : List ℕ) → is_digit (first cs) 10 ≡ true
     → (bytes_eq cs (codes "inf") || bytes_eq cs (codes "nan")) ≡ false
 not_special [] e = refl
@@ -206,20 +206,20 @@ scale_ends cs is = rw (exponent-complete cs is) (either (length cs == 0))
     either true = refl
     either false = refl
 
--- a float is read
-pub float-complete : (word : List ℕ) → IsFloat word → is_float word ≡ true
+-- a float of the grammar is read
+pub float-complete : (token : List ℕ) → IsFloat token → is_float token ≡ true
 unfolding is_unsigned_float
-float-complete word (grammar.fraction sign whole decimals negative is_sign is is') =
+float-complete token (grammar.fraction sign whole decimals negative is_sign is is') =
     let good : are_decimals decimals ≡ true = rw append-nil at (decimals-complete decimals [] is' refl refl) in
     signed_number sign whole (46 ∷ decimals) negative is_sign is refl (point_tail decimals good)
-float-complete word (grammar.scaled sign whole scale negative is_sign is is_scale) =
+float-complete token (grammar.scaled sign whole scale negative is_sign is is_scale) =
     signed_number sign whole scale negative is_sign is (exponent_stops scale is_scale)
     (rw (no_fraction scale is_scale) (exponent-complete scale is_scale))
-float-complete word (grammar.both sign whole decimals scale negative is_sign is is' is_scale) =
+float-complete token (grammar.both sign whole decimals scale negative is_sign is is' is_scale) =
     signed_number sign whole (46 ∷ (decimals ++ scale)) negative is_sign is refl
     (point_tail (decimals ++ scale) (decimals-complete decimals scale is' (exponent_stops scale is_scale)
     (scale_ends scale is_scale)))
-float-complete word (grammar.infinity sign negative is_sign) =
+float-complete token (grammar.infinity sign negative is_sign) =
     rw (sign-complete sign (codes "inf") negative is_sign refl).0 refl
-float-complete word (grammar.not_a_number sign negative is_sign) =
+float-complete token (grammar.not_a_number sign negative is_sign) =
     rw (sign-complete sign (codes "nan") negative is_sign refl).0 refl

@@ -1,4 +1,4 @@
--- What the grammar calls a key is read, and what is read as a key is in the grammar.
+-- A key of the grammar is read, and a key that is read is in the grammar.
 use Rattle.std.proofs.Common.{◌≡◌, ℕ, zero, suc, ◌+◌, ◌-◌, ◌≤◌, true, false, ◌||◌, ◌==◌, List, [], ◌∷◌, ◌++◌, length}
 use Rattle.std.proofs.Common.{take, drop, Some, None, refl, sym, ap, subst, ◌∙◌, inl, inr, arith, append_assoc}
 use Rattle.std.proofs.Common.{length-append}
@@ -21,7 +21,7 @@ use Rattle.deny_toml_grammar.specs.GrammarStrings as strings
 use Rattle.deny_toml_grammar.specs.Grammar.{IsPart, IsKey}
 use Rattle.deny_toml_grammar.specs.Grammar as grammar
 use Rattle.deny_toml_grammar.proofs.LexicalLaws.{split_while-run}
-use Rattle.deny_lists.proofs.PrefixLemmas.{list_all-take}
+use Rattle.deny_base_lists.proofs.PrefixLemmas.{list_all-take}
 use Rattle.deny_toml_grammar.proofs.Blanks.{skip_spaces-run}
 use Rattle.deny_toml_grammar.proofs.KeysLaws.{key_after_zero, key_after_none, key_after_last, key_after_more}
 use Rattle.deny_toml_grammar.proofs.StringsSound.{read_of, read_same, SpacesPrefix, spaces_prefix, spaces_found}
@@ -30,7 +30,7 @@ use Rattle.deny_toml_grammar.proofs.QuotedLaws.{Prefix, prefix, OneLine, record_
 use Rattle.deny_toml_grammar.proofs.QuotedLaws.{one_line-sound}
 
 -- a part of a key begins neither with a space nor with a comment
-pub part_first : (at : ℕ) (cs rest : List ℕ) (part : Key) → IsPart at cs part
+part_first : (at : ℕ) (cs rest : List ℕ) (part : Key) → IsPart at cs part
     → (is_bare (first (cs ++ rest)) || is_delimiter (first (cs ++ rest))) ≡ true
 part_first at cs rest part (grammar.bare c cs' all) = rw (and_parts (is_bare c) (list_all is_bare cs') all).0
 part_first at cs rest part (grammar.quoted _ name span (strings.quoted d inner _ is_d is)) = grind (arith, nat_tests)
@@ -60,8 +60,8 @@ simple_key_bare : (total : ℕ) (text : List ℕ) → starts_string text ≡ fal
 unfolding simple_key
 simple_key_bare total text no_string bare_ = rw (no_string, bare_)
 
--- a part of a key is read
-pub simple_key-complete : (at total : ℕ) (cs rest : List ℕ) (part : Key) → IsPart at cs part
+-- a part of a key of the grammar is read
+simple_key-complete : (at total : ℕ) (cs rest : List ℕ) (part : Key) → IsPart at cs part
     → is_bare (first rest) ≡ false → at + length (cs ++ rest) ≡ total
     → simple_key total (cs ++ rest) ≡ Some (part, rest)
 unfolding simple_key
@@ -76,7 +76,7 @@ simple_key-complete at total cs rest part (grammar.quoted _ name span (strings.q
           (strings.quoted d inner name is_d is) offset,
     )
 
--- what is read as a part of a key
+-- a bare part of a key, split from the text after it
 bare_split : (total c : ℕ) (cs : List ℕ) → is_bare c ≡ true
     → bare_key total (c ∷ cs) ≡ key_with (c ∷ take (prefix_len is_bare cs) cs) (drop (prefix_len is_bare cs) cs)
     (between total (c ∷ cs) (drop (prefix_len is_bare cs) cs))
@@ -103,7 +103,7 @@ bare_prefix total c k cs all within =
     (subst (λ s. Prefix (IsPart at) (drop k cs) ((c ∷ take k cs) ++ drop k cs)
     (key_with (c ∷ take k cs) (drop k cs) s).0) (sym span) here)
 
--- what is read as a part of a key
+-- a bare part of a key that is read is in the grammar
 bare_found : (total : ℕ) (text rest : List ℕ) (part : Key) → is_bare (first text) ≡ true → length text ≤ total
     → Some (bare_key total text) ≡ read_of part rest
     → Prefix (IsPart (total - length text)) rest text part
@@ -128,7 +128,7 @@ quoted_found total text rest part (Some (s, r)) starts within is e =
         → Prefix (IsPart at) r text (quoted_key s)
     quoted_prefix at r text s (prefix cs _ is) = prefix cs (quoted_key s) (grammar.quoted cs s.value s.span is)
 
-pub simple_key-sound : (total : ℕ) (text rest : List ℕ) (part : Key) → length text ≤ total
+simple_key-sound : (total : ℕ) (text rest : List ℕ) (part : Key) → length text ≤ total
     → simple_key total text ≡ read_of part rest → Prefix (IsPart (total - length text)) rest text part
 unfolding simple_key
 simple_key-sound total text rest part within e =
@@ -156,7 +156,7 @@ spaces_not_bare (c ∷ spaces) tail all stop =
     let space : is_space c ≡ true = (and_parts (is_space c) (list_all is_space spaces) all).0 in grind
     (arith, nat_tests)
 
--- a key is read, with the spaces after it
+-- a key of the grammar is read, with the spaces after it
 pub key_after-complete : (left at total : ℕ) (found : List Key) (cs tail : List ℕ) (path : List Key)
     → IsKey left at cs path → is_bare (first tail) ≡ false
     → (first (skip_spaces tail) == 46) ≡ false → at + length (cs ++ tail) ≡ total
@@ -189,7 +189,7 @@ key_after-complete left at total found cs tail path (grammar.dotted left' _ cs' 
     no_space : (c : ℕ) → (is_bare c || is_delimiter c) ≡ true → is_space c ≡ false
     no_space c e = grind (arith, nat_tests)
 
--- the key at the start of a text, after the parts found before, and the spaces after it
+-- the key at the start of a text, after the parts read before, and the spaces after it
 pub data KeyPrefix (left at : ℕ) (found : List Key) (rest : List ℕ) : List ℕ → List Key → Type 0 where
   key_prefix : (cs spaces : List ℕ) (path : List Key) → IsKey left at cs path → AreSpaces spaces
       → KeyPrefix left at found rest (cs ++ (spaces ++ rest)) (found ++ path)
@@ -220,7 +220,7 @@ dotted_prefix n at total found cs spaces tail more text part rest path is are_sp
     (key_prefix whole spaces' (part ∷ path') (grammar.dotted n at cs spaces more cs' part path' is are_spaces are_more
     key) are_spaces'))
 
--- what holds of the rest of a key, of fewer parts
+-- the rest of a key, which has fewer parts, is in the grammar
 abbrev KeyRest : ℕ → ℕ → List ℕ → Type 0
 KeyRest n total rest = (found : List Key) (text : List ℕ) (path : List Key) → length text ≤ total
     → key_after n total found text ≡ read_of path rest
@@ -279,7 +279,7 @@ part_by n total found text rest path (Some (part, after)) within ih read e =
     part_prefix n total found text after part rest path (simple_key-sound total text after part within read) within ih
     read e
 
--- what is read as a key
+-- a key that is read is in the grammar
 pub key_after-sound : (n total : ℕ) (rest : List ℕ) → KeyRest n total rest
 key_after-sound zero total rest found text path within e = absurd
     (none-some (path, rest) (sym (key_after_zero total found text) ∙ e))

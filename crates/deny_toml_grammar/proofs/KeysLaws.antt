@@ -1,4 +1,4 @@
--- The loop over the parts of a key, a turn at a time.
+-- The loop over the parts of a key, step by step.
 use Rattle.std.proofs.Common.{◌≡◌, ℕ, zero, suc, ◌-◌, ◌<◌, ◌==◌, true, false, List, [], ◌∷◌, ◌++◌, drop, Some, None}
 use Rattle.std.proofs.Common.{refl, arith}
 use Rattle.deny_toml_grammar.specs.declared.parts.Key.{Key}

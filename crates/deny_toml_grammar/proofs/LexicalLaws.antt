@@ -11,13 +11,14 @@ use Rattle.std.proofs.lemmas.Str.{IsCharBoundary-after_ascii}
 use Rattle.std.specs.List.{prefix_len, list_all}
 use Rattle.std.specs.Char.{is_ascii_digit}
 use Rattle.std.specs.Str.{IsCharBoundary}
-use Rattle.deny_toml_grammar.specs.declared.lexical.Class.{Class}
-use Rattle.deny_toml_grammar.specs.declared.lexical.Class.TheVariants.{Space, Bare, Word, Digit, Grouped, Byte, Plain}
-use Rattle.deny_toml_grammar.specs.Lexical.{first, is_plain, is_space, is_bare, is_word}
+use Rattle.deny_toml_grammar.specs.declared.lexical.ByteClass.{ByteClass}
+use Rattle.deny_toml_grammar.specs.declared.lexical.ByteClass.TheVariants.{Space, Bare, Token, Digit, Grouped}
+use Rattle.deny_toml_grammar.specs.declared.lexical.ByteClass.TheVariants.{Byte, Plain}
+use Rattle.deny_toml_grammar.specs.Lexical.{first, is_plain, is_space, is_bare, is_token_byte}
 use Rattle.deny_toml_grammar.specs.private.Lexical.{class_test, EndsAtBoundary}
 use Rattle.deny_toml_grammar.specs.Lexical.{is_grouped, split_while, skip_turn, skip_from}
 
--- a byte that is not 0 was read inside the text
+-- a byte that is not 0 lies inside the text
 pub within_from_byte : (xs : List ℕ) (i : ℕ) → 0 < get_or xs i 0 → i < length xs
 within_from_byte xs i h = elim (cases_lt i (length xs)) [
   | inl within ↦ within
@@ -32,13 +33,13 @@ boundary_after p bs (suc k) e utf8 ascii =
     rw (← add-one) (IsCharBoundary-after_ascii bs k utf8 (omega (arith, prefix_len-le-length p bs))
     (ascii _ (prefix_len_passes p bs k 0 (omega arith))))
 
--- a run of ASCII bytes ends where a character does
-pub IsCharBoundary-ascii_run : (p : ℕ → Bool) (bs : List ℕ) → IsUtf8 bs → ((c : ℕ) → p c ≡ true → c < 128)
+-- a run of ASCII bytes ends at a character boundary
+IsCharBoundary-ascii_run : (p : ℕ → Bool) (bs : List ℕ) → IsUtf8 bs → ((c : ℕ) → p c ≡ true → c < 128)
     → IsCharBoundary bs (prefix_len p bs)
 IsCharBoundary-ascii_run p bs = boundary_after p bs _ refl
 
--- and so does a run that only an ASCII byte stops
-pub IsCharBoundary-wide_run : (p : ℕ → Bool) (bs : List ℕ) → ((c : ℕ) → p c ≡ false → c < 128)
+-- a run that only an ASCII byte ends is over at a character boundary
+IsCharBoundary-wide_run : (p : ℕ → Bool) (bs : List ℕ) → ((c : ℕ) → p c ≡ false → c < 128)
     → IsCharBoundary bs (prefix_len p bs)
 IsCharBoundary-wide_run p bs ascii =
     elim (cases_lt (prefix_len p bs) (length bs)) [
@@ -46,12 +47,12 @@ IsCharBoundary-wide_run p bs ascii =
       | inr past ↦ subst (IsCharBoundary bs) (omega (arith, prefix_len-le-length p bs)) (IsCharBoundary-end bs)
     ]
 
--- a run of any class that ends at a boundary
-pub IsCharBoundary-run : (class : Class) (bs : List ℕ) → IsUtf8 bs → EndsAtBoundary class
+-- a run of a class that keeps to boundaries ends at one
+pub IsCharBoundary-run : (class : ByteClass) (bs : List ℕ) → IsUtf8 bs → EndsAtBoundary class
     → IsCharBoundary bs (prefix_len (class_test class) bs)
 IsCharBoundary-run Space bs utf8 h = IsCharBoundary-ascii_run is_space bs utf8 (λ c e. grind (arith, nat_tests))
 IsCharBoundary-run Bare bs utf8 h = IsCharBoundary-ascii_run is_bare bs utf8 (λ c e. grind (arith, nat_tests))
-IsCharBoundary-run Word bs utf8 h = IsCharBoundary-ascii_run is_word bs utf8 (λ c e. grind (arith, nat_tests))
+IsCharBoundary-run Token bs utf8 h = IsCharBoundary-ascii_run is_token_byte bs utf8 (λ c e. grind (arith, nat_tests))
 IsCharBoundary-run Digit bs utf8 h = IsCharBoundary-ascii_run is_ascii_digit bs utf8 (λ c e. grind (arith, nat_tests))
 IsCharBoundary-run Grouped bs utf8 h = IsCharBoundary-ascii_run is_grouped bs utf8 (λ c e. grind (arith, nat_tests))
 IsCharBoundary-run (Byte b) bs utf8 h = IsCharBoundary-ascii_run (λ c. c == b) bs utf8
@@ -59,7 +60,7 @@ IsCharBoundary-run (Byte b) bs utf8 h = IsCharBoundary-ascii_run (λ c. c == b) 
 IsCharBoundary-run (Plain delimiter multi) bs utf8 h = IsCharBoundary-wide_run (is_plain delimiter multi) bs
     (λ c e. grind (arith, nat_tests))
 
--- one turn of `skip_from`, at an index
+-- one step of `skip_from`, at an index
 pub skip_from-drop : (comments inside : Bool) (xs : List ℕ) (i : ℕ) → i < length xs
     → let turn = skip_turn comments inside (get_or xs i 0) (get_or xs (i + 1) 0) in
     skip_from comments inside (drop i xs) ≡ cond (is_some turn)
@@ -69,7 +70,7 @@ skip_from-drop comments inside xs i h =
     let next : get_or (drop (i + 1) xs) 0 0 ≡ get_or xs (i + 1) 0 = rw (get_or-drop (i + 1) xs 0 0, add-zero) in
     rw (drop_more xs i 0 h, next)
 
--- what ends a comment or goes on after white space is an ASCII byte
+-- a byte at which skipping stops, or which it skips outside a comment, is ASCII
 pub skip_turn_ascii : (comments inside : Bool) (c next : ℕ) → skip_turn comments inside c next ≡ Some false → c < 128
 skip_turn_ascii comments inside c next e = grind (arith, nat_tests)
 
@@ -77,7 +78,7 @@ pub skip_from-nil : (comments inside : Bool) → skip_from comments inside [] �
 unfolding skip_from
 skip_from-nil comments inside = refl
 
--- a run is found again in front of a byte that does not pass
+-- a run before a byte of another class is as long as the run alone
 pub prefix_len-run : (p : ℕ → Bool) (run rest : List ℕ) → list_all p run ≡ true → p (first rest) ≡ false
     → prefix_len p (run ++ rest) ≡ length run
 prefix_len-run p [] [] all stop = refl

@@ -9,7 +9,7 @@ pub mod StringsComplete
 pub mod StringsSound
 pub mod QuotedLaws
 pub mod KeysGrammar
-pub mod WordsGrammar
+pub mod UnquotedGrammar
 pub mod ValuesComplete
 pub mod ValuesSound
 pub mod LinesComplete
@@ -20,6 +20,6 @@ pub mod FloatsLaws
 pub mod DatesLaws
 pub mod ScalarsLaws
 pub mod ScalarsShape
-pub mod StandingBytes
+pub mod OccurringBytes
 pub mod Walk
-pub mod RangesLaws
+pub mod SpansLaws

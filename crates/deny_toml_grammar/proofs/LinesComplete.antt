@@ -1,4 +1,4 @@
--- What the grammar calls a line, and a text, is read.
+-- A line and a document of the grammar are read.
 use Rattle.std.proofs.Common.{◌≡◌, ℕ, zero, suc, ◌+◌, ◌-◌, ◌<◌, Bool, true, false, ◌||◌, ◌==◌, List, [], ◌∷◌, ◌++◌}
 use Rattle.std.proofs.Common.{length, Some, None, refl, sym, ap, subst, ◌∙◌, arith, append_assoc, append-nil}
 use Rattle.std.proofs.Common.{length-append}
@@ -7,8 +7,8 @@ use Rattle.std.proofs.lemmas.Bool.Decides.{nat_tests}
 use Rattle.std.specs.List.{list_all}
 use Rattle.deny_toml_grammar.specs.declared.parts.Key.{Key}
 use Rattle.deny_toml_grammar.specs.declared.expression.Assignment.{Assignment}
-use Rattle.deny_toml_grammar.specs.declared.expression.Expression.{Expression}
-use Rattle.deny_toml_grammar.specs.declared.expression.Expression.TheVariants as expression
+use Rattle.deny_toml_grammar.specs.declared.expression.TomlExpression.{TomlExpression}
+use Rattle.deny_toml_grammar.specs.declared.expression.TomlExpression.TheVariants as expression
 use Rattle.deny_toml_grammar.specs.Lexical.{first, is_space, is_bare, skip_spaces, skip_turn, skip_from}
 use Rattle.deny_toml_grammar.specs.private.Lexical.{skip_blank}
 use Rattle.deny_toml_grammar.specs.Expression.{depth_limit}
@@ -34,7 +34,7 @@ not_bare_after [] tail b all stop = stop
 not_bare_after (c ∷ cs) tail b all stop =
     let space : is_space c ≡ true = (and_parts (is_space c) (list_all is_space cs) all).0 in grind (arith, nat_tests)
 
--- the key of a header is read
+-- the key of a header of the grammar is read
 path_read : (at total : ℕ) (spaces cs after rest : List ℕ) (path : List Key) → AreSpaces spaces
     → IsKey depth_limit (at + length spaces) cs path → AreSpaces after
     → at + length (spaces ++ (cs ++ (after ++ (93 ∷ rest)))) ≡ total
@@ -83,17 +83,17 @@ unfolding expression_at header array_header
 array_read at total spaces cs after rest path are_spaces is_key are_after offset =
     rw (path_read (at + 2) total spaces cs after (93 ∷ rest) path are_spaces is_key are_after (omega arith))
 
--- what begins an expression
+-- whether a byte begins an expression
 abbrev pub begins_expression : ℕ → Bool
 begins_expression c = begins_key c || c == 91
 
-pub expression_first : (at : ℕ) (cs rest : List ℕ) (e : Expression) → IsExpression at cs e
+pub expression_first : (at : ℕ) (cs rest : List ℕ) (e : TomlExpression) → IsExpression at cs e
     → begins_expression (first (cs ++ rest)) ≡ true
 expression_first at cs rest e (grammar.table spaces cs' after path are_spaces is_key are_after) = refl
 expression_first at cs rest e (grammar.array_of_tables spaces cs' after path are_spaces is_key are_after) = refl
 expression_first at cs rest e (grammar.assignment _ a is) = rw (assignment_first depth_limit at cs rest a is) refl
 
-some_bytes : (at : ℕ) (cs : List ℕ) (e : Expression) → IsExpression at cs e → 0 < length cs
+some_bytes : (at : ℕ) (cs : List ℕ) (e : TomlExpression) → IsExpression at cs e → 0 < length cs
 some_bytes at [] e is = absurd (false≢true (expression_first at [] [] e is))
 some_bytes at (c ∷ cs) e is = omega arith
 
@@ -112,7 +112,7 @@ assignment_read : (total : ℕ) (text rest : List ℕ) (a : Assignment) → (fir
 unfolding expression_at
 assignment_read total text rest a other read = rw (other, read)
 
-pub expression-complete : (at total : ℕ) (cs rest : List ℕ) (e : Expression) → IsExpression at cs e → Follows rest
+expression-complete : (at total : ℕ) (cs rest : List ℕ) (e : TomlExpression) → IsExpression at cs e → Follows rest
     → at + length (cs ++ rest) ≡ total
     → expression_at total (cs ++ rest) ≡ Some (e, rest)
 expression-complete at total cs rest e (grammar.table spaces cs' after path are_spaces is_key are_after) follows
@@ -129,14 +129,14 @@ expression-complete at total cs rest e (grammar.assignment _ a is) follows offse
     assignment_read total (cs ++ rest) rest a other (assignment-complete depth_limit at total cs rest a is follows
     offset)
 
--- lines are read alike where they are alike after their blanks
-lines_skipped : (n total : ℕ) (found : List Expression) (one other : List ℕ) → skip_blank one ≡ skip_blank other
+-- two texts that are equal after their blanks have equal lines
+lines_skipped : (n total : ℕ) (found : List TomlExpression) (one other : List ℕ) → skip_blank one ≡ skip_blank other
     → lines n total found one ≡ lines n total found other
 unfolding lines
 lines_skipped zero total found one other same = refl
 lines_skipped (suc n) total found one other same = rw same
 
-line_read : (at total : ℕ) (cs rest : List ℕ) (e : Expression) → IsExpression at cs e → Follows rest
+line_read : (at total : ℕ) (cs rest : List ℕ) (e : TomlExpression) → IsExpression at cs e → Follows rest
     → ends_line (skip_spaces rest) ≡ true → at + length (cs ++ rest) ≡ total
     → line total (cs ++ rest) ≡ Some (e, rest)
 unfolding line
@@ -148,8 +148,8 @@ unfolding skip_from
 expression_stops [] e = refl
 expression_stops (c ∷ cs) e = let none : skip_turn true false c (first cs) ≡ None = grind (arith, nat_tests) in rw none
 
--- a line's expression is read, and the loop goes on after it
-line_goes_on : (at total n : ℕ) (found : List Expression) (spaces cs after tail : List ℕ) (e : Expression)
+-- the expression of a line is read, and the loop continues after it
+line_goes_on : (at total n : ℕ) (found : List TomlExpression) (spaces cs after tail : List ℕ) (e : TomlExpression)
     → AreSpaces spaces → IsExpression (at + length spaces) cs e → AreSpaces after
     → is_end (first tail) ≡ true → ends_line tail ≡ true → is_space (first tail) ≡ false
     → at + length (spaces ++ (cs ++ (after ++ tail))) ≡ total
@@ -182,7 +182,7 @@ feed_ends cs = grind (arith, nat_tests)
 return_ends : (cs : List ℕ) → ends_line (13 ∷ cs) ≡ true
 return_ends cs = grind (arith, nat_tests)
 
--- what remains of a line after its expression
+-- what follows the expression of a line
 comment_end : (comment : List ℕ) → IsComment comment → (is_end (first comment) ≡ true) × (ends_line comment ≡ true)
     × (is_space (first comment) ≡ false)
 comment_end comment grammar.none = (refl, refl, refl)
@@ -201,7 +201,7 @@ rest_skipped spaces comment all grammar.none = ap (skip_from true false) (append
     ∙ skip_from-spaces true spaces all
 rest_skipped spaces comment all (grammar.comment body all') = skip_from-last spaces body all all'
 
--- and those of another line, with its line end
+-- the blanks of a line are skipped, with its line end
 line_skipped : (spaces comment end rest : List ℕ) → AreSpaces spaces → IsComment comment → IsNewline end
     → skip_blank (spaces ++ (comment ++ (end ++ rest))) ≡ skip_blank rest
 line_skipped spaces comment end rest all grammar.none is_newline =
@@ -218,12 +218,12 @@ line_skipped spaces comment end rest all (grammar.comment body all') is_newline 
     rw (append-nil end, append_assoc spaces (35 ∷ (body ++ end)) rest, append_assoc body end rest) in
     ap (skip_from true false) (sym same) ∙ skip_from-blanks true (spaces ++ (35 ∷ (body ++ (end ++ [])))) rest blank
 
-lines_over : (n total : ℕ) (found : List Expression) (text : List ℕ) → 0 < n → skip_blank text ≡ []
+lines_over : (n total : ℕ) (found : List TomlExpression) (text : List ℕ) → 0 < n → skip_blank text ≡ []
     → lines n total found text ≡ Some found
 lines_over n total found text some over = lines_end n total found text some (rw over refl)
 
--- lines are read
-pub lines-complete : (at total n : ℕ) (found : List Expression) (text : List ℕ) (es : List Expression)
+-- lines of the grammar are read
+lines-complete : (at total n : ℕ) (found : List TomlExpression) (text : List ℕ) (es : List TomlExpression)
     → AreLines at text es → length text < n → at + length text ≡ total
     → lines n total found text ≡ Some (found ++ es)
 lines-complete at total zero found text es is room offset = absurd (omega arith)
@@ -272,8 +272,8 @@ lines-complete at total (suc n) found text es' (grammar.more _ _ end rest es fs
     ∙ lines-complete (at + length whole + length end) total n (found ++ e ∷ []) rest fs others (omega arith)
     (omega arith) ∙ ap Some (append_assoc found (e ∷ []) fs))
 
--- a text of the grammar is read, and as the grammar says
-pub expressions-complete : (text : List ℕ) (es : List Expression) → IsDocument text es → expressions text ≡ Some es
+-- a document of the grammar is read
+pub expressions-complete : (text : List ℕ) (es : List TomlExpression) → IsDocument text es → expressions text ≡ Some es
 unfolding expressions
 expressions-complete text es is = lines-complete 0 (length text) (suc (length text)) [] text es is (omega arith)
     (omega arith)

@@ -1,4 +1,4 @@
--- What is read as a line, and as a text, is in the grammar.
+-- A line and a document that are read are in the grammar.
 use Rattle.std.proofs.Common.{◌≡◌, ℕ, zero, suc, ◌+◌, ◌-◌, ◌≤◌, true, false, ◌==◌, if◌then◌else◌, List, [], ◌∷◌, ◌++◌}
 use Rattle.std.proofs.Common.{length, Some, None, option_and_then, refl, sym, subst, ◌∙◌, inl, inr, arith, append_assoc}
 use Rattle.std.proofs.Common.{append-nil, length-append, add-zero}
@@ -8,8 +8,8 @@ use Rattle.std.proofs.lemmas.Bool.Decides.{nat_tests}
 use Rattle.std.specs.List.{list_all}
 use Rattle.deny_toml_grammar.specs.declared.parts.Key.{Key}
 use Rattle.deny_toml_grammar.specs.declared.expression.Assignment.{Assignment}
-use Rattle.deny_toml_grammar.specs.declared.expression.Expression.{Expression}
-use Rattle.deny_toml_grammar.specs.declared.expression.Expression.TheVariants as expression
+use Rattle.deny_toml_grammar.specs.declared.expression.TomlExpression.{TomlExpression}
+use Rattle.deny_toml_grammar.specs.declared.expression.TomlExpression.TheVariants as expression
 use Rattle.deny_toml_grammar.specs.Lexical.{Read, first, is_space, is_comment_byte, skip_spaces}
 use Rattle.deny_toml_grammar.specs.private.Lexical.{skip_blank}
 use Rattle.deny_toml_grammar.specs.private.Reading.{read_map}
@@ -31,7 +31,7 @@ use Rattle.deny_toml_grammar.proofs.ValuesSound.{assignment-sound}
 use Rattle.deny_toml_grammar.proofs.LinesComplete.{begins_expression, expression_first}
 use Rattle.deny_toml_grammar.proofs.LinesLaws.{lines_zero, lines_end, lines_more, lines_bad}
 
--- the key of a header and its first closing bracket
+-- the path of a header at the start of a text, and its first closing bracket
 data PathPrefix (total : ℕ) (rest : List ℕ) : List ℕ → List Key → Type 0 where
   path_prefix : (spaces cs after : List ℕ) (path : List Key) → AreSpaces spaces
       → IsKey depth_limit (total - length (cs ++ (after ++ (93 ∷ rest)))) cs path → AreSpaces after
@@ -118,7 +118,8 @@ array_prefix total text rest path within (path_prefix spaces cs after path' are_
     (grammar.array_of_tables spaces cs after path' are_spaces (subst (λ a. IsKey depth_limit a cs path') at_is is_key)
     are_after))
 
-array_by : (total : ℕ) (text rest : List ℕ) (e : Expression) (o : Read (List Key)) → length (91 ∷ (91 ∷ text)) ≤ total
+array_by : (total : ℕ) (text rest : List ℕ) (e : TomlExpression) (o : Read (List Key))
+    → length (91 ∷ (91 ∷ text)) ≤ total
     → header_path total text ≡ o
     → read_map expression.Header (option_and_then (λ p. option_and_then (λ r. read_of (header_with true p.0) r)
     (after_byte 93 p.1)) o) ≡ read_of e rest
@@ -138,7 +139,7 @@ array_by total text rest e (Some (path, c ∷ tail)) within is same =
       | inr other ↦ absurd (none-some (e, rest) (rw other at same))
     ]
 
-table_by : (total : ℕ) (text rest : List ℕ) (e : Expression) (o : Read (List Key)) → length (91 ∷ text) ≤ total
+table_by : (total : ℕ) (text rest : List ℕ) (e : TomlExpression) (o : Read (List Key)) → length (91 ∷ text) ≤ total
     → header_path total text ≡ o
     → read_map expression.Header (read_map (header_with false) o) ≡ read_of e rest
     → Prefix (IsExpression (total - length (91 ∷ text))) rest (91 ∷ text) e
@@ -148,7 +149,7 @@ table_by total text rest e (Some (path, r)) within is same =
     (expression.Header (header_with false path)) e r rest same
     (table_prefix total text r path within (path-sound total text r path (omega arith) is))
 
-header_found : (total : ℕ) (text rest : List ℕ) (e : Expression) → length (91 ∷ text) ≤ total
+header_found : (total : ℕ) (text rest : List ℕ) (e : TomlExpression) → length (91 ∷ text) ≤ total
     → read_map expression.Header (header total text) ≡ read_of e rest
     → Prefix (IsExpression (total - length (91 ∷ text))) rest (91 ∷ text) e
 unfolding header array_header
@@ -162,7 +163,7 @@ header_found total (c ∷ text) rest e within same =
       | inr other ↦ table_by total (c ∷ text) rest e (header_path total (c ∷ text)) within refl (rw other at same)
     ]
 
-assignment_by : (total : ℕ) (text rest : List ℕ) (e : Expression) (o : Read Assignment) → length text ≤ total
+assignment_by : (total : ℕ) (text rest : List ℕ) (e : TomlExpression) (o : Read Assignment) → length text ≤ total
     → assignment (value depth_limit total) total text ≡ o
     → read_map expression.Assignment o ≡ read_of e rest → Prefix (IsExpression (total - length text)) rest text e
 assignment_by total text rest e None within is same = absurd (none-some (e, rest) same)
@@ -174,8 +175,8 @@ assignment_by total text rest e (Some (a, r)) within is same =
         → Prefix (IsExpression at) r text (expression.Assignment a)
     of_prefix at r text a (prefix cs _ is) = prefix cs (expression.Assignment a) (grammar.assignment cs a is)
 
--- what is read as an expression
-pub expression-sound : (total : ℕ) (text rest : List ℕ) (e : Expression) → length text ≤ total
+-- an expression that is read is in the grammar
+expression-sound : (total : ℕ) (text rest : List ℕ) (e : TomlExpression) → length text ≤ total
     → expression_at total text ≡ read_of e rest
     → Prefix (IsExpression (total - length text)) rest text e
 unfolding expression_at
@@ -192,7 +193,7 @@ expression-sound total (c ∷ text) rest e within same =
     ]
 
 -- a line with a space before it
-line_space : (at c : ℕ) (cs : List ℕ) (es : List Expression) → is_space c ≡ true → IsLine (at + 1) cs es
+line_space : (at c : ℕ) (cs : List ℕ) (es : List TomlExpression) → is_space c ≡ true → IsLine (at + 1) cs es
     → IsLine at (c ∷ cs) es
 line_space at c cs es space (grammar.blank spaces comment are_spaces is_comment) =
     grammar.blank (c ∷ spaces) comment (rw space are_spaces) is_comment
@@ -201,7 +202,7 @@ line_space at c cs es space (grammar.says spaces cs' after comment e are_spaces 
     grammar.says (c ∷ spaces) cs' after comment e (rw space are_spaces) (subst (λ a. IsExpression a cs' e) at_is is)
     are_after is_comment
 
-lines_space : (at c : ℕ) (text : List ℕ) (es : List Expression) → is_space c ≡ true → AreLines (at + 1) text es
+lines_space : (at c : ℕ) (text : List ℕ) (es : List TomlExpression) → is_space c ≡ true → AreLines (at + 1) text es
     → AreLines at (c ∷ text) es
 lines_space at c text es space (grammar.last _ _ _ is) = grammar.last at (c ∷ text) es
     (line_space at c text es space is)
@@ -211,14 +212,14 @@ lines_space at c text es' space (grammar.more _ cs end rest es fs is is_newline 
     (subst (λ a. AreLines a rest fs) at_is others)
 
 -- lines with a line end before them
-lines_newline : (at : ℕ) (comment end rest : List ℕ) (es : List Expression) → IsComment comment → IsNewline end
+lines_newline : (at : ℕ) (comment end rest : List ℕ) (es : List TomlExpression) → IsComment comment → IsNewline end
     → AreLines (at + length comment + length end) rest es
     → AreLines at (comment ++ (end ++ rest)) es
 lines_newline at comment end rest es is_comment is_newline others =
     grammar.more at comment end rest [] es (grammar.blank [] comment refl is_comment) is_newline others
 
 -- lines with blanks before them
-lines_blank : (at : ℕ) (blank rest : List ℕ) (es : List Expression) → IsBlank true blank
+lines_blank : (at : ℕ) (blank rest : List ℕ) (es : List TomlExpression) → IsBlank true blank
     → AreLines (at + length blank) rest es → AreLines at (blank ++ rest) es
 lines_blank at blank rest es strings.none is = subst (λ a. AreLines a rest es) (add-zero at) is
 lines_blank at blank rest es (strings.space c cs space more) is =
@@ -241,7 +242,7 @@ lines_blank at blank rest es (strings.comment body end cs allowed all is_newline
     (lines_newline at (35 ∷ body) end (cs ++ rest) es (grammar.comment body all) is_newline
     (lines_blank (at + length (35 ∷ body) + length end) cs rest es more (subst (λ a. AreLines a rest es) at_is is)))
 
--- a text that has nothing but blanks
+-- a text that is blank has no expressions
 nothing_left : (at : ℕ) (text : List ℕ) → Skipped true [] text → AreLines at text []
 nothing_left at text (done blank is) = lines_blank at blank [] [] is
     (grammar.last (at + length blank) [] [] (grammar.blank [] [] refl grammar.none))
@@ -250,8 +251,8 @@ nothing_left at text (unclosed blank body allowed is all stop) =
     lines_blank at blank (35 ∷ (body ++ [])) [] is (grammar.last (at + length blank) (35 ∷ (body ++ [])) []
     (grammar.blank [] (35 ∷ (body ++ [])) refl (grammar.comment (body ++ []) all')))
 
--- what ends a line begins no expression
-says_nothing : (at : ℕ) (spaces cs rest : List ℕ) (e : Expression) → AreSpaces spaces → IsExpression at cs e
+-- a line end or a comment begins no expression
+says_nothing : (at : ℕ) (spaces cs rest : List ℕ) (e : TomlExpression) → AreSpaces spaces → IsExpression at cs e
     → ends_line (skip_spaces (spaces ++ (cs ++ rest))) ≡ true → ⊥
 says_nothing at spaces cs rest e are_spaces is ends =
     let starts = expression_first at cs rest e is in
@@ -266,8 +267,8 @@ says_nothing at spaces cs rest e are_spaces is ends =
     no_end [] e = absurd (false≢true e)
     no_end (c ∷ cs) e = grind (arith, nat_tests)
 
--- an expression before what remains of its line, and further lines
-expression_before : (at : ℕ) (cs after : List ℕ) (e : Expression) (es : List Expression) → IsExpression at cs e
+-- an expression before the rest of its line, and the lines after it
+expression_before : (at : ℕ) (cs after : List ℕ) (e : TomlExpression) (es : List TomlExpression) → IsExpression at cs e
     → ends_line (skip_spaces after) ≡ true
     → AreLines (at + length cs) after es → AreLines at (cs ++ after) (e ∷ es)
 expression_before at cs after e es is ends (grammar.last _ _ _ (grammar.blank spaces comment are_spaces is_comment)) =
@@ -297,15 +298,16 @@ expression_before at cs after e es' is ends (grammar.more _ _ end rest es fs
     absurd (says_nothing (at + length cs + length spaces) spaces cs' ((after' ++ comment) ++ (end ++ rest)) e'
     are_spaces is' (rw same at ends))
 
--- the expressions that were read after those found before
-data LinesFound (at : ℕ) (found : List Expression) (text : List ℕ) : List Expression → Type 0 where
-  lines_found : (es : List Expression) → AreLines at text es → LinesFound at found text (found ++ es)
+-- the expressions of a text, after those found before
+data LinesFound (at : ℕ) (found : List TomlExpression) (text : List ℕ) : List TomlExpression → Type 0 where
+  lines_found : (es : List TomlExpression) → AreLines at text es → LinesFound at found text (found ++ es)
 
 abbrev LinesRest : ℕ → ℕ → Type 0
-LinesRest n total = (found : List Expression) (text : List ℕ) (all : List Expression) → length text ≤ total
+LinesRest n total = (found : List TomlExpression) (text : List ℕ) (all : List TomlExpression) → length text ≤ total
     → lines n total found text ≡ Some all → LinesFound (total - length text) found text all
 
-more_found : (total : ℕ) (found : List Expression) (blank cs after : List ℕ) (e : Expression) (all : List Expression)
+more_found : (total : ℕ) (found : List TomlExpression) (blank cs after : List ℕ) (e : TomlExpression)
+    (all : List TomlExpression)
     → length (blank ++ (cs ++ after)) ≤ total → IsBlank true blank
     → IsExpression (total - length (cs ++ after)) cs e → ends_line (skip_spaces after) ≡ true
     → LinesFound (total - length after) (found ++ e ∷ []) after all
@@ -326,12 +328,12 @@ more_found total found blank cs after e all within is_blank is ends (lines_found
 expression_inked : (c : ℕ) → begins_expression c ≡ true → is_comment_byte c ≡ true
 expression_inked c e = grind (arith, nat_tests)
 
-prefix_first : (at : ℕ) (start after : List ℕ) (e : Expression) → Prefix (IsExpression at) after start e
+prefix_first : (at : ℕ) (start after : List ℕ) (e : TomlExpression) → Prefix (IsExpression at) after start e
     → begins_expression (first start) ≡ true
 prefix_first at start after e (prefix cs _ is) = expression_first at cs after e is
 
-skipped_found : (total : ℕ) (found : List Expression) (text start after : List ℕ) (e : Expression)
-    (all : List Expression) → length text ≤ total → Skipped true start text
+skipped_found : (total : ℕ) (found : List TomlExpression) (text start after : List ℕ) (e : TomlExpression)
+    (all : List TomlExpression) → length text ≤ total → Skipped true start text
     → begins_expression (first start) ≡ true → Prefix (IsExpression (total - length start)) after start e
     → ends_line (skip_spaces after) ≡ true
     → (length after ≤ total → LinesFound (total - length after) (found ++ e ∷ []) after all)
@@ -344,12 +346,13 @@ skipped_found total found text start after e all within (done blank is_blank) st
     simp length-append (omega arith) in
     more_found total found blank cs after e all within is_blank is ends (ih (omega arith))
 
-line_parts : (total : ℕ) (text rest : List ℕ) (e : Expression) → line total text ≡ read_of e rest
+line_parts : (total : ℕ) (text rest : List ℕ) (e : TomlExpression) → line total text ≡ read_of e rest
     → (expression_at total text ≡ read_of e rest) × (ends_line (skip_spaces rest) ≡ true)
 unfolding line
 line_parts total text rest e same = by_expression (expression_at total text) same
   where
-    by_expression : (o : Read Expression) → option_and_then (λ x. if ends_line (skip_spaces x.1) then Some x else None)
+    by_expression : (o : Read TomlExpression) → option_and_then
+        (λ x. if ends_line (skip_spaces x.1) then Some x else None)
         o ≡ read_of e rest → (o ≡ read_of e rest) × (ends_line (skip_spaces rest) ≡ true)
     by_expression None same = absurd (none-some (e, rest) same)
     by_expression (Some (e', r)) same =
@@ -360,7 +363,8 @@ line_parts total text rest e same = by_expression (expression_at total text) sam
           | inr other ↦ absurd (none-some (e, rest) (rw other at same))
         ]
 
-line_by : (n total : ℕ) (found : List Expression) (text : List ℕ) (all : List Expression) (o : Read Expression)
+line_by : (n total : ℕ) (found : List TomlExpression) (text : List ℕ) (all : List TomlExpression)
+    (o : Read TomlExpression)
     → LinesRest n total → length text ≤ total → length (skip_blank text) ≤ total
     → (length (skip_blank text) == 0) ≡ false → line total (skip_blank text) ≡ o
     → lines (suc n) total found text ≡ Some all → LinesFound (total - length text) found text all
@@ -377,7 +381,7 @@ line_by n total found text all (Some (x, after)) ih within inner other is e =
     (prefix_first (total - length start) start after x found_x) found_x ends
     (λ room. ih (found ++ x ∷ []) after all room goes_on)
 
-over_found : (total : ℕ) (found : List Expression) (text start : List ℕ) → (length start == 0) ≡ true
+over_found : (total : ℕ) (found : List TomlExpression) (text start : List ℕ) → (length start == 0) ≡ true
     → Skipped true start text → LinesFound (total - length text) found text found
 over_found total found text [] over skipped = subst (LinesFound (total - length text) found text) (append-nil found)
     (lines_found [] (nothing_left (total - length text) text skipped))
@@ -401,11 +405,12 @@ lines-sound (suc n) total found text all within e =
           (omega (arith, skipped_within (skip_blank text) text (skip_from_found true text))) other refl e
     ]
 
-document_of : (at : ℕ) (text : List ℕ) (es : List Expression) → LinesFound at [] text es → at ≡ 0 → IsDocument text es
+document_of : (at : ℕ) (text : List ℕ) (es : List TomlExpression) → LinesFound at [] text es → at ≡ 0
+    → IsDocument text es
 document_of at text es' (lines_found es are) is_zero = subst (λ a. AreLines a text es) is_zero are
 
--- what is read as a text is in the grammar
-pub expressions-sound : (text : List ℕ) (es : List Expression) → expressions text ≡ Some es → IsDocument text es
+-- a document that is read is in the grammar
+pub expressions-sound : (text : List ℕ) (es : List TomlExpression) → expressions text ≡ Some es → IsDocument text es
 unfolding expressions
 expressions-sound text es e = document_of (length text - length text) text es
     (lines-sound (suc (length text)) (length text) [] text es (omega arith) e) (omega arith)

@@ -1,13 +1,12 @@
 -- Digits and their value.
-use Rattle.std.proofs.Common.{◌^◌, false, ◌==◌, cond, drop, Some, None, ◌≡◌, ℕ, zero, suc, ◌+◌, ◌*◌, ◌<◌, ◌≤◌, get_or}
-use Rattle.std.proofs.Common.{Bool, true, List, [], ◌∷◌, ◌&&◌, length, arith, le_refl, le_trans, mul-le-mul_left}
+use Rattle.std.proofs.Common.{◌^◌, Some, None, ◌≡◌, ℕ, zero, suc, ◌+◌, ◌*◌, ◌<◌, ◌≤◌, get_or}
+use Rattle.std.proofs.Common.{Bool, true, List, [], ◌∷◌, length, arith, le_refl, le_trans, mul-le-mul_left}
 use Rattle.std.proofs.lemmas.Bool.{and_parts}
 use Rattle.std.proofs.lemmas.Bool.Decides.{nat_tests}
 use Rattle.std.specs.List.{list_all}
 use Rattle.std.specs.Char.{digit_value, is_digit}
 use Rattle.std.specs.Str.Parse.{digits_value_after}
-use Rattle.std.proofs.lemmas.List.{drop_more}
-use Rattle.deny_toml_grammar.specs.Numbers.{groups, bounded_after, next_value, digits_alone}
+use Rattle.deny_toml_grammar.specs.Numbers.{bounded_after, next_value, digits_alone}
 
 -- each byte of a list passes
 pub list_all-at : (p : ℕ → Bool) (xs : List ℕ) (i : ℕ) → list_all p xs ≡ true → i < length xs → p (get_or xs i 0) ≡ true
@@ -26,13 +25,7 @@ le-digits_value_after radix n (d ∷ ds) h =
     let step : n ≤ n * radix + digit_value d = omega (arith, mul-le-mul_left n h) in
     le_trans step (le-digits_value_after radix (n * radix + digit_value d) ds h)
 
--- one turn of `groups`, at an index
-pub groups-drop : (p : ℕ → Bool) (after : Bool) (ds : List ℕ) (i : ℕ) → i < length ds
-    → groups p after (drop i ds) ≡ cond (p (get_or ds i 0)) (groups p true (drop (i + 1) ds))
-    (cond (after && (get_or ds i 0 == 95)) (groups p false (drop (i + 1) ds)) false)
-groups-drop p after ds i h = rw (drop_more ds i 0 h)
-
--- one byte more of a number
+-- the value of a number with one more byte
 pub bounded_after_some : (radix value c next : ℕ) (cs : List ℕ) → next_value radix value c ≡ Some next
     → bounded_after radix value (c ∷ cs) ≡ bounded_after radix next cs
 unfolding next_value

@@ -1,4 +1,4 @@
--- Whole strings with their spans: what the grammar calls a string is read, and what is read is in the grammar.
+-- Whole strings with their spans: a string of the grammar is read, and a string that is read is in the grammar.
 use Rattle.std.proofs.Common.{◌≡◌, ℕ, suc, ◌+◌, ◌-◌, ◌<◌, ◌≤◌, true, false, ◌&&◌, ◌==◌, List, [], ◌∷◌, ◌++◌, length}
 use Rattle.std.proofs.Common.{Some, None, option_map, refl, sym, ap, subst, inl, inr, arith, append_assoc}
 use Rattle.std.proofs.Common.{length-append}
@@ -22,7 +22,7 @@ use Rattle.deny_toml_grammar.proofs.StringsComplete.{content-complete}
 use Rattle.deny_toml_grammar.proofs.StringsSound.{read_of, read_same, ContentPrefix, content_prefix, content-sound}
 use Rattle.deny_toml_grammar.proofs.StringsSound.{NewlinePrefix, newline_prefix, newline_found}
 
--- a prefix of the text that something is said of, and the rest
+-- a prefix of the text of which P holds, and the rest
 pub data Prefix {A : Type 0} (P : List ℕ → A → Type 0) (rest : List ℕ) : List ℕ → A → Type 0 where
   prefix : (cs : List ℕ) (a : A) → P cs a → Prefix P rest (cs ++ rest) a
 
@@ -32,7 +32,7 @@ record_of start end = record { start = start; end = end }
 pub span_is : (start end at len : ℕ) → start ≡ at → end ≡ at + len → record_of start end ≡ span_of at len
 span_is start end at len s e = rw (s, e)
 
-abbrev pub text_with : List ℕ → Span → Spanned (List ℕ)
+abbrev text_with : List ℕ → Span → Spanned (List ℕ)
 text_with value span = record { value = value; span = span }
 
 abbrev pub OneLine : ℕ → List ℕ → Spanned (List ℕ) → Type 0
@@ -51,7 +51,7 @@ content_of_one_line d cs vs rest n is_d is room =
     rw (append_assoc cs (d ∷ []) rest) (content-complete d false 0 cs vs rest n is_d is (omega arith)
     (λ e. absurd (false≢true e)) room)
 
--- a string on one line is read
+-- a one-line string of the grammar is read
 pub one_line-complete : (at total : ℕ) (cs vs rest : List ℕ) (span : Span) → IsOneLine at cs vs span
     → at + length (cs ++ rest) ≡ total
     → one_line total (cs ++ rest) ≡ Some (text_with vs span, rest)
@@ -73,7 +73,7 @@ content_first d before c cs vs is_d (grammar.escape _ _ _ _ _ quote is_escape is
 content_first d before c cs vs is_d (grammar.cut _ _ _ _ _ _ impossible quote s e b i is) =
     absurd (false≢true impossible)
 
--- a string on one line does not look like one on several
+-- a one-line string does not begin as a multi-line string
 one_line_looks : (d : ℕ) (cs vs rest : List ℕ) → is_delimiter d ≡ true → IsContent d false 0 cs vs
     → is_delimiter (first rest) ≡ false
     → ((slice_index (d ∷ ((cs ++ d ∷ []) ++ rest)) 1 == d) && (slice_index (d ∷ ((cs ++ d ∷ []) ++ rest)) 2 == d)) ≡
@@ -120,7 +120,7 @@ multi_line-complete at total d opening cs vs rest is_d is_opening is stop offset
     let end : total - length rest - 3 ≡ at + 3 + (length opening + length cs) = omega arith in
     rw (trimmed, read, span_is _ _ (at + 3) (length opening + length cs) start end)
 
--- a string is read, where no delimiter follows it
+-- a string of the grammar is read where no delimiter follows it
 pub quoted-complete : (at total : ℕ) (cs rest : List ℕ) (value : Scalar) (span : Span) → IsText at cs value span
     → is_delimiter (first rest) ≡ false
     → at + length (cs ++ rest) ≡ total → quoted total (cs ++ rest) ≡ Some (record { value = value; span = span }, rest)
@@ -167,7 +167,7 @@ one_line_by total d tail rest s (Some (vs, r)) is_d within is e =
     (text_with vs (record_of (total - length tail) (total - length r - 1))) s r rest e
     (one_line_prefix total d tail vs r is_d within (content-sound d false (length (d ∷ tail)) tail vs r is_d is))
 
--- what is read as a string on one line
+-- a one-line string that is read is in the grammar
 pub one_line-sound : (total : ℕ) (text rest : List ℕ) (s : Spanned (List ℕ)) → starts_string text ≡ true
     → length text ≤ total → one_line total text ≡ read_of s rest
     → Prefix (OneLine (total - length text)) rest text s
@@ -176,7 +176,7 @@ one_line-sound total [] rest s starts within e = absurd (false≢true starts)
 one_line-sound total (d ∷ tail) rest s starts within e = one_line_by total d tail rest s
     (content d false (length (d ∷ tail)) tail) starts within refl e
 
--- what follows the opening delimiters, up to the content
+-- the text after the opening delimiters, up to the content
 data Opened : List ℕ → List ℕ → Type 0 where
   opened : (opening more : List ℕ) → IsOpening opening more → Opened (opening ++ more) more
 
@@ -199,7 +199,7 @@ trim_opened tail =
     not_trimmed text e = elim (cases_Bool (first text == 10))
         [ inl feed ↦ absurd (grind (arith, nat_tests)) | inr other ↦ let more = rw other at e in rw (other, more) ]
 
--- the opening of a prefix
+-- an opening of a longer text is one of its prefix
 opening_prefix : (opening cs tail : List ℕ) → IsOpening opening (cs ++ tail) → IsOpening opening cs
 opening_prefix opening cs tail (grammar.next_line _ _ is_end) = grammar.next_line opening cs is_end
 opening_prefix opening cs tail (grammar.same_line _ none) = grammar.same_line cs (none_before cs tail none)
@@ -262,7 +262,7 @@ multi_line-sound total d tail rest s is_d within e =
     multi_line_by total d tail rest s (content d true (length (d ∷ (d ∷ (d ∷ tail)))) (trim_newline tail)) is_d within
     refl e
 
--- a string of one of the two kinds, from one that was read
+-- the string of one kind that was read
 of_kind : (kind : List ℕ → Scalar) (P : List ℕ → Spanned (List ℕ) → Type 0) (at : ℕ) (text rest : List ℕ)
     (s : Spanned Scalar) (o : Read (Spanned (List ℕ)))
     → ((cs : List ℕ) (x : Spanned (List ℕ)) → P cs x → IsText at cs (kind x.value) x.span)
@@ -306,7 +306,7 @@ one_found total d tail rest s is_d within e =
     (λ cs x is. grammar.one_line cs x.value x.span is)
     (λ r x is. one_line-sound total (d ∷ tail) r x is_d within is) e
 
--- what is read as a string
+-- a string that is read is in the grammar
 pub quoted-sound : (total : ℕ) (text rest : List ℕ) (s : Spanned Scalar) → starts_string text ≡ true
     → length text ≤ total → quoted total text ≡ read_of s rest
     → Prefix (WholeText (total - length text)) rest text s

@@ -1,4 +1,4 @@
--- The value that a word writes is the one that the grammar says.
+-- The value of an unquoted token is the one of the grammar.
 use Rattle.std.proofs.Common.{◌≡◌, ℕ, ℤ, suc, ◌+◌, Bool, true, false, not, ◌&&◌, ◌||◌, ◌==◌, List, [], ◌∷◌, ◌++◌}
 use Rattle.std.proofs.Common.{length, take, drop, Option, Some, None, option_map, refl, sym, subst, ◌∙◌, inl, inr}
 use Rattle.std.proofs.Common.{arith, append-nil, drop_at}
@@ -14,10 +14,10 @@ use Rattle.deny_toml_grammar.specs.declared.parts.Scalar.TheVariants.{Integer, F
 use Rattle.deny_toml_grammar.specs.Lexical.{first, is_grouped}
 use Rattle.deny_toml_grammar.specs.Numbers.{integer, is_float, is_unsigned_float, is_decimal, is_fraction}
 use Rattle.deny_toml_grammar.specs.private.Dates.{is_date}
-use Rattle.deny_toml_grammar.specs.private.Words.{word_value}
-use Rattle.deny_toml_grammar.specs.GrammarWords.{IsDigits, IsDecimal, IsSign, IsInteger, IsExponent, IsFloat, IsTwo}
-use Rattle.deny_toml_grammar.specs.GrammarWords.{StartsDate, StartsTime, IsDate, IsScalar}
-use Rattle.deny_toml_grammar.specs.GrammarWords as grammar
+use Rattle.deny_toml_grammar.specs.private.Unquoted.{token_value}
+use Rattle.deny_toml_grammar.specs.GrammarScalars.{IsDigits, IsDecimal, IsSign, IsInteger, IsExponent, IsFloat, IsTwo}
+use Rattle.deny_toml_grammar.specs.GrammarScalars.{StartsDate, StartsTime, IsDate, IsScalar}
+use Rattle.deny_toml_grammar.specs.GrammarScalars as grammar
 use Rattle.deny_toml_grammar.proofs.LexicalLaws.{prefix_len-run}
 use Rattle.deny_toml_grammar.proofs.DigitsLaws.{sign-complete, no_sign, decimal_first, decimal-digits, integer-sound}
 use Rattle.deny_toml_grammar.proofs.DigitsLaws.{integer-complete}
@@ -25,11 +25,11 @@ use Rattle.deny_toml_grammar.proofs.FloatsLaws.{same_bytes, grouped_all, not_spe
 use Rattle.deny_toml_grammar.proofs.FloatsLaws.{float-complete}
 use Rattle.deny_toml_grammar.proofs.DatesLaws.{date_is-sound, date_is-complete}
 
--- what follows the digits at the start
+-- the index after the digits at the start
 abbrev after_digits : List ℕ → ℕ
 after_digits cs = first (drop (prefix_len is_ascii_digit cs) cs)
 
--- digits at the start, and after them a dash or a colon: so dates begin, and no number
+-- digits at the start with a dash or a colon after them, as in dates and in no number
 abbrev dated : List ℕ → Bool
 dated cs = is_ascii_digit (first cs) && (after_digits cs == 45 || after_digits cs == 58)
 
@@ -53,7 +53,7 @@ dates_dated cs (grammar.moment c _ time_ rest offset is divides is_time_ is_frac
     date_dated (c ∷ time_) cs is
 dates_dated cs (grammar.hour _ rest is is_fraction) = time_dated rest cs is
 
--- what ends the digits of a number
+-- whether a byte ends the digits of a number
 abbrev ends_digits : ℕ → Bool
 ends_digits c = not (is_ascii_digit c) && (not (c == 45) && not (c == 58))
 
@@ -125,7 +125,7 @@ no_date cs e = elim (cases_Bool (is_date cs)) [
   | inr none ↦ none
 ]
 
--- an integer is no float
+-- an integer of the grammar is no float
 integer_no_float : (cs : List ℕ) (z : ℤ) → IsInteger cs z → is_float cs ≡ false
 unfolding is_unsigned_float
 integer_no_float cs z (grammar.decimal sign whole negative _ is_sign is value_is) =
@@ -144,7 +144,7 @@ integer_no_float cs z (grammar.hexadecimal digits _ is value_is) = refl
 integer_no_float cs z (grammar.octal digits _ is value_is) = refl
 integer_no_float cs z (grammar.binary digits _ is value_is) = refl
 
--- what is no letter t or f begins neither `true` nor `false`
+-- a text that begins with neither t nor f is neither `true` nor `false`
 no_boolean : (cs : List ℕ) → ((first cs == 116) || (first cs == 102)) ≡ false → (bytes_eq cs (codes "true") ≡ false)
     × (bytes_eq cs (codes "false") ≡ false)
 no_boolean [] e = (refl, refl)
@@ -192,9 +192,9 @@ date_no_letter cs e =
     letter : (c : ℕ) → is_ascii_digit c ≡ true → ((c == 116) || (c == 102)) ≡ false
     letter c e = grind (arith, nat_tests)
 
--- a value without quotes is read
-pub scalar-complete : (cs : List ℕ) (v : Scalar) → IsScalar cs v → word_value cs ≡ Some v
-unfolding word_value
+-- an unquoted scalar of the grammar is read
+pub scalar-complete : (cs : List ℕ) (v : Scalar) → IsScalar cs v → token_value cs ≡ Some v
+unfolding token_value
 scalar-complete cs v grammar.true_ = refl
 scalar-complete cs v grammar.false_ = refl
 scalar-complete cs v (grammar.integer _ z is) =
@@ -212,9 +212,9 @@ integer_by cs v None is e = absurd (none-some v e)
 integer_by cs v (Some z) is e = subst (IsScalar cs) (same_Some (Integer z) v e)
     (grammar.integer cs z (integer-sound cs z is))
 
--- what is read as a value without quotes
-pub scalar-sound : (cs : List ℕ) (v : Scalar) → word_value cs ≡ Some v → IsScalar cs v
-unfolding word_value
+-- an unquoted scalar that is read is in the grammar
+pub scalar-sound : (cs : List ℕ) (v : Scalar) → token_value cs ≡ Some v → IsScalar cs v
+unfolding token_value
 scalar-sound cs v e =
     elim (cases_Bool (bytes_eq cs (codes "true"))) [
       | inl is_true ↦ subst (IsScalar cs) (same_Some (Boolean true) v (rw is_true at e))

@@ -1,4 +1,4 @@
--- What the grammar calls a string is read, and as the grammar says.
+-- The content of a string of the grammar is read.
 use Rattle.std.proofs.Common.{◌≡◌, ℕ, zero, suc, ◌+◌, ◌<◌, ◌≤◌, ◌⊎◌, Bool, true, false, ◌&&◌, ◌==◌, nat_lt, nat_le}
 use Rattle.std.proofs.Common.{if◌then◌else◌, List, [], ◌∷◌, ◌++◌, length, take, drop, Some, None, refl, sym, ap, ◌∙◌}
 use Rattle.std.proofs.Common.{inl, inr, arith, append_assoc, take_at, drop_at, length-append}
@@ -19,11 +19,11 @@ use Rattle.deny_toml_grammar.proofs.StringsLaws.{content_plain, content_special}
 abbrev pub closing : Bool → ℕ → List ℕ
 closing multi d = if multi then d ∷ (d ∷ (d ∷ [])) else d ∷ []
 
--- how many delimiters stand at the start
+-- the number of delimiters at the start
 abbrev pub run : ℕ → List ℕ → ℕ
 run d cs = prefix_len (λ c. c == d) cs
 
--- what stands so many delimiters into a run of them: the run is text, or it ends the string
+-- a run of delimiters that is text, or ends the string, after this many delimiters before it
 abbrev pub RunFits : ℕ → ℕ → Type 0
 RunFits before n = (n + before ≤ 2) ⊎ ((3 ≤ n) × (n + before ≤ 5))
 
@@ -36,7 +36,7 @@ run_closing d rest other =
     let same : (d == d) ≡ true = grind (arith, nat_tests) in
     rw (same, run_end d rest other)
 
-pub run_fits : (d : ℕ) (multi : Bool) (before : ℕ) (cs vs rest : List ℕ) → is_delimiter d ≡ true
+run_fits : (d : ℕ) (multi : Bool) (before : ℕ) (cs vs rest : List ℕ) → is_delimiter d ≡ true
     → IsContent d multi before cs vs → before ≤ 2 → (first rest == d) ≡ false
     → RunFits before (run d (cs ++ (d ∷ (d ∷ (d ∷ rest)))))
 run_fits d multi before cs vs rest is_d (grammar.end _) room other =
@@ -56,7 +56,7 @@ run_fits d multi before cs vs rest is_d (grammar.cut _ spaces end blank cs' vs' 
     let not_d : (92 == d) ≡ false = grind (arith, nat_tests) in rw not_d (inl (omega arith))
 
 -- the closing delimiters end a string
-pub special_closing : (d : ℕ) (multi : Bool) (rest : List ℕ) → (multi ≡ true → (first rest == d) ≡ false)
+special_closing : (d : ℕ) (multi : Bool) (rest : List ℕ) → (multi ≡ true → (first rest == d) ≡ false)
     → special d multi (closing multi d ++ rest) ≡ Some (None, rest)
 unfolding special
 special_closing d true rest other =
@@ -133,7 +133,7 @@ escape-cut spaces end blank rest are_spaces is_end is_blank ink =
     rw (append_assoc spaces (end ++ blank) rest, append_assoc end blank rest) in
     rw (here, starts) (ap (λ r. Some ([], r)) (ap (skip_from false false) (sym joined) ∙ skipped))
 
--- ink stays ink in front of the closing delimiters
+-- ink before the closing delimiters is ink
 ink_before : (cs tail : List ℕ) → IsInk cs → is_space (first tail) ≡ false → starts_newline tail ≡ false
     → (first tail == 10) ≡ false → IsInk (cs ++ tail)
 ink_before [] tail ink no_space no_newline no_feed = record { no_space = no_space; no_newline = no_newline }
@@ -179,7 +179,7 @@ closing_ink d multi cs rest is_d ink =
     ink_before cs (closing multi d ++ rest) ink (rw at (grind (arith, nat_tests)))
     (closing_no_newline d multi rest is_d) (rw at (grind (arith, nat_tests)))
 
--- what is read of a string's content
+-- the content of the grammar is read
 pub content-complete : (d : ℕ) (multi : Bool) (before : ℕ) (cs vs rest : List ℕ) (n : ℕ) → is_delimiter d ≡ true
     → IsContent d multi before cs vs → before ≤ 2
     → (multi ≡ true → (first rest == d) ≡ false) → length cs < n

@@ -1,4 +1,4 @@
--- The loop over the pieces of a string, a turn at a time.
+-- The loop over the pieces of a string, step by step.
 use Rattle.std.proofs.Common.{◌≡◌, ℕ, zero, suc, ◌+◌, ◌<◌, ◌≤◌, Bool, true, false, List, [], ◌∷◌, ◌++◌, length, Option}
 use Rattle.std.proofs.Common.{Some, None, is_some, option_and_then, Result, refl, sym, ap, ◌∙◌, inl, inr, arith}
 use Rattle.std.proofs.Common.{append_assoc, append-nil}
@@ -6,20 +6,20 @@ use Rattle.std.proofs.lemmas.Bool.{cases_Bool, true≢false, false≢true}
 use Rattle.std.proofs.lemmas.Bool.Decides.{nat_tests}
 use Rattle.std.specs.List.{prefix_len}
 use Rattle.std.specs.Borrow.{Bor}
-use Rattle.deny_lists.specs.Reader.{Fails}
-use Rattle.deny_lists.proofs.ReaderLemmas.{fails_weaker}
+use Rattle.deny_base_lists.specs.Reader.{Fails}
+use Rattle.deny_base_lists.proofs.ReaderLemmas.{fails_weaker}
 use Rattle.deny_toml_grammar.specs.declared.read_error.ReadError.{ReadError}
 use Rattle.deny_toml_grammar.specs.declared.read_error.ReadError.TheVariants.{Memory}
 use Rattle.deny_toml_grammar.specs.Lexical.{Read, first, is_plain, split_while}
 use Rattle.deny_toml_grammar.specs.private.Reading.{Reads, piece_bytes}
 use Rattle.deny_toml_grammar.specs.Strings.{special, prepend, after_piece, content}
 
--- a reader's result, where another reader is expected that gives the same
+-- a result that fits one reader fits an equal one
 pub reads_same : {A : Type 0} (r : Result (A × Bor (List ℕ)) ReadError) (one other : Read A) → one ≡ other
     → Reads r other → Reads r one
 reads_same r one other same reads = rw same reads
 
--- where one reader fails, so does another that gives nothing where the first gives nothing
+-- a failure of one reader is a failure of another that gives nothing where the first gives nothing
 pub fails_with : {A B : Type 0} (e : ReadError) (one : Option A) (other : Option B) → (one ≡ None → other ≡ None)
     → Fails Memory (λ _. one ≡ None) e → Fails Memory (λ _. other ≡ None) e
 fails_with e one other then fails = fails_weaker Memory (λ _. one ≡ None) (λ _. other ≡ None) e (λ _. then) fails
@@ -28,12 +28,12 @@ pub prepend-nil : (r : Read (List ℕ)) → prepend [] r ≡ r
 prepend-nil None = refl
 prepend-nil (Some p) = refl
 
-pub prepend-prepend : (xs ys : List ℕ) (r : Read (List ℕ)) → prepend xs (prepend ys r) ≡ prepend (xs ++ ys) r
+prepend-prepend : (xs ys : List ℕ) (r : Read (List ℕ)) → prepend xs (prepend ys r) ≡ prepend (xs ++ ys) r
 prepend-prepend xs ys None = refl
 prepend-prepend xs ys (Some p) = rw (append_assoc xs ys p.0)
 
--- what follows a byte that is not plain
-abbrev pub after_special : ℕ → Bool → ℕ → List ℕ → Read (List ℕ)
+-- the content from a byte on that is not plain
+abbrev after_special : ℕ → Bool → ℕ → List ℕ → Read (List ℕ)
 after_special delimiter multi n text = option_and_then (λ p. after_piece (content delimiter multi n) p.0 p.1)
     (special delimiter multi text)
 
@@ -52,8 +52,8 @@ pub content_special : (delimiter : ℕ) (multi : Bool) (n : ℕ) (text : List �
 unfolding content
 content_special delimiter multi n text h = rw h
 
--- the plain bytes at the start are taken as they are
-pub content_run : (delimiter : ℕ) (multi : Bool) (text : List ℕ) (n : ℕ) → length text < n
+-- the plain bytes at the start are kept as they are
+content_run : (delimiter : ℕ) (multi : Bool) (text : List ℕ) (n : ℕ) → length text < n
     → let parts = split_while (is_plain delimiter multi) text in
     (m : ℕ) × (length parts.1 ≤ m) × (content delimiter multi n text ≡ prepend parts.0
     (after_special delimiter multi m parts.1))
@@ -79,13 +79,13 @@ content_run delimiter multi (c ∷ cs) (suc n) h =
       | inr other ↦ rw other (n, omega arith, content_special delimiter multi n (c ∷ cs) other ∙ sym (prepend-nil _))
     ]
 
--- the loop has read `out`, and goes on at `rest`
+-- the loop has read `out` and continues at `rest`
 abbrev pub HasRead : ℕ → Bool → ℕ → List ℕ → List ℕ → List ℕ → Type 0
 HasRead delimiter multi n text out rest = (m : ℕ) × (length rest < m)
     × (content delimiter multi n text ≡ prepend out (content delimiter multi m rest))
 
--- what a turn of the loop leaves
-pub turn_some : (delimiter : ℕ) (multi : Bool) (n : ℕ) (text out rest plain after : List ℕ) (piece : Option (List ℕ))
+-- the state after one step of the loop
+turn_some : (delimiter : ℕ) (multi : Bool) (n : ℕ) (text out rest plain after : List ℕ) (piece : Option (List ℕ))
     (next : List ℕ)
     → HasRead delimiter multi n text out rest → (plain, after) ≡ split_while (is_plain delimiter multi) rest
     → special delimiter multi after ≡ Some (piece, next)
@@ -130,7 +130,7 @@ turn_none delimiter multi n text out rest plain after h parts e =
     let back : after ≡ (split_while (is_plain delimiter multi) rest).1 = ap (λ p. p.1) parts in
     loop ∙ ap (prepend out) run ∙ rw (← prefix, ← back, e)
 
--- a string whose bytes all stand for themselves
+-- the content of a string in which every byte is plain
 pub content_closed : (delimiter : ℕ) (multi : Bool) (n : ℕ) (text plain after rest : List ℕ) → length text < n
     → (plain, after) ≡ split_while (is_plain delimiter multi) text → special delimiter multi after ≡ Some (None, rest)
     → content delimiter multi n text ≡ Some (plain, rest)

@@ -1,4 +1,4 @@
--- What is read of a string is what the grammar says.
+-- The content of a string that is read is in the grammar.
 use Rattle.std.proofs.Common.{◌≡◌, ℕ, zero, suc, ◌+◌, ◌<◌, ◌≤◌, ◌⊎◌, Bool, true, false, ◌&&◌, ◌==◌, nat_lt, nat_le}
 use Rattle.std.proofs.Common.{List, [], ◌∷◌, ◌++◌, length, take, drop, Option, Some, None, option_map, option_and_then}
 use Rattle.std.proofs.Common.{refl, sym, ap, subst, ◌∙◌, inl, inr, arith, append_assoc, length-take}
@@ -20,22 +20,13 @@ use Rattle.deny_toml_grammar.proofs.Blanks.{Skipped, done, unclosed}
 use Rattle.deny_toml_grammar.proofs.StringsLaws.{content_zero, content_plain, content_special}
 use Rattle.deny_toml_grammar.proofs.StringsComplete.{closing, closing_first, run, RunFits}
 
--- what was read before
-pub prepend_some : (xs vs rest : List ℕ) (r : Read (List ℕ)) → prepend xs r ≡ Some (vs, rest) → (ws : List ℕ)
-    × (r ≡ Some (ws, rest)) × (vs ≡ xs ++ ws)
-prepend_some xs vs rest None e = absurd (none-some _ e)
-prepend_some xs vs rest (Some p) e =
-    let same = same_Some _ _ e in
-    let rest_is : p.1 ≡ rest = ap (λ q. q.1) same in
-    (p.0, rw rest_is refl, sym (ap (λ q. q.0) same))
-
--- what an escape may be
-pub data Escaped (multi : Bool) (rest : List ℕ) : List ℕ → List ℕ → Type 0 where
+-- the forms of an escape: a character, or a line end with the blanks after it
+data Escaped (multi : Bool) (rest : List ℕ) : List ℕ → List ℕ → Type 0 where
   character : (escaped : List ℕ) (c : ℕ) → IsEscape escaped c → Escaped multi rest (escaped ++ rest) (encode_utf8 c)
   cut : (spaces end blank : List ℕ) → multi ≡ true → AreSpaces spaces → IsNewline end → IsBlank false blank → IsInk rest
       → Escaped multi rest (spaces ++ (end ++ (blank ++ rest))) []
 
--- what follows from a value and a rest follows from those that are the same
+-- a reading that gave this value and this rest
 abbrev pub read_of : {A : Type 0} → A → List ℕ → Read A
 read_of a rest = Some (a, rest)
 
@@ -101,7 +92,7 @@ escape_char_found (b ∷ cs) rest c e =
       ]
     ]
 
--- a line end at the start
+-- a text that begins with a line end
 pub data NewlinePrefix : List ℕ → Type 0 where
   newline_prefix : (end more : List ℕ) → IsNewline end → NewlinePrefix (end ++ more)
 
@@ -121,7 +112,7 @@ newline_found (b ∷ (d ∷ cs)) e =
           (subst (λ x. NewlinePrefix (13 ∷ (x ∷ cs))) is_feed (newline_prefix (13 ∷ (10 ∷ [])) cs grammar.both))
     ]
 
--- spaces at the start
+-- a text that begins with spaces
 pub data SpacesPrefix (rest : List ℕ) : List ℕ → Type 0 where
   spaces_prefix : (spaces : List ℕ) → AreSpaces spaces → SpacesPrefix rest (spaces ++ rest)
 
@@ -161,7 +152,7 @@ by_character multi text rest bs (Some (c, r)) is e =
     of_prefix : (multi : Bool) (r text : List ℕ) (c : ℕ) → EscapePrefix r text c → Escaped multi r text (encode_utf8 c)
     of_prefix multi r text c (prefix escaped _ is_escape) = character escaped c is_escape
 
-pub escape_found : (multi : Bool) (text rest bs : List ℕ) → escape multi text ≡ Some (bs, rest)
+escape_found : (multi : Bool) (text rest bs : List ℕ) → escape multi text ≡ Some (bs, rest)
     → Escaped multi rest text bs
 unfolding escape
 escape_found multi text rest bs e =
@@ -175,7 +166,7 @@ escape_found multi text rest bs e =
       | inr other ↦ by_character multi text rest bs (escape_char text) refl (rw other at e)
     ]
 
--- what was read with bytes before it
+-- a reading with bytes before it
 data Prepended (xs : List ℕ) (r : Read (List ℕ)) (rest : List ℕ) : List ℕ → Type 0 where
   prepended : (ws : List ℕ) → r ≡ read_of ws rest → Prepended xs r rest (xs ++ ws)
 
@@ -184,11 +175,11 @@ prepend_found xs vs rest None e = absurd (none-some (vs, rest) e)
 prepend_found xs vs rest (Some (ws, r)) e = read_same (λ v t. Prepended xs (read_of ws r) t v) (xs ++ ws) vs r rest e
     (prepended ws refl)
 
--- the closing delimiters come next
+-- the text begins with the closing delimiters
 data Ends (d : ℕ) (multi : Bool) (next : List ℕ) : List ℕ → Type 0 where
   ends : Ends d multi next (closing multi d ++ next)
 
--- a byte that is not plain stands for these bytes
+-- the bytes that a byte which is not plain writes
 data Goes (d : ℕ) (multi : Bool) (next : List ℕ) : List ℕ → List ℕ → Type 0 where
   quote : multi ≡ true → (1 + run d next == 3) ≡ false → nat_lt (1 + run d next) 6 ≡ true
       → Goes d multi next (d ∷ next) (d ∷ [])
@@ -300,7 +291,7 @@ special_found d multi (c ∷ cs) next piece is_d not_plain e =
       | inr not_d ↦ other_found d multi c cs next piece is_d not_plain not_d e
     ]
 
--- the content at the start, its closing delimiters, and the rest
+-- the content at the start of a text, its closing delimiters, and the rest
 pub data ContentPrefix (d : ℕ) (multi : Bool) (before : ℕ) (rest : List ℕ) : List ℕ → List ℕ → Type 0 where
   content_prefix : (cs vs : List ℕ) → IsContent d multi before cs vs
       → ContentPrefix d multi before rest (cs ++ (closing multi d ++ rest)) vs
@@ -363,7 +354,7 @@ feed_prefix d multi before rest text vs is_d is_multi (content_prefix cs _
 feed_prefix d multi before rest text vs is_d is_multi (content_prefix cs _
     (grammar.cut _ spaces end blank cs' vs' _ is_quote are_spaces is_end is_blank ink is)) feed = absurd (omega arith)
 
--- what is known of the delimiters before an offset: none, or few enough for the run that stands there
+-- the number of delimiters before an offset: 0, or few enough for the run at the offset
 BeforeFits : ℕ → ℕ → Type 0
 BeforeFits before n = (before ≡ 0) ⊎ RunFits before n
 
@@ -382,7 +373,7 @@ few_before before n (inr (inr ends_it)) other few = (
       (grind (arith, nat_tests), omega arith),
 )
 
--- what holds of the rest of a string, by fewer pieces
+-- the rest of a string, which has fewer pieces, is in the grammar
 abbrev Rest : ℕ → Bool → ℕ → List ℕ → Type 0
 Rest d multi n rest = (before : ℕ) (text vs : List ℕ) → before ≤ 2 → BeforeFits before (run d text)
     → content d multi n text ≡ read_of vs rest → ContentPrefix d multi before rest text vs
@@ -436,7 +427,7 @@ plain_found d multi n before rest (c ∷ cs) vs plain ih e =
     plain_step d multi n before c rest cs vs plain ih (prepend_found (c ∷ []) vs rest (content d multi n cs)
     (sym (content_plain d multi n c cs plain) ∙ e))
 
--- what is read as the content of a string
+-- the content of a string that is read is in the grammar
 content_found : (d : ℕ) (multi : Bool) (n : ℕ) (rest : List ℕ) → is_delimiter d ≡ true → Rest d multi n rest
 content_found d multi zero rest is_d before text vs room fits e =
     absurd (none-some (vs, rest) (sym (content_zero d multi text) ∙ e))
@@ -447,7 +438,7 @@ content_found d multi (suc n) rest is_d before text vs room fits e =
           (content_found d multi n rest is_d) fits other refl (sym (content_special d multi n text other) ∙ e)
     ]
 
--- at the start of a string there are no delimiters before
+-- the content of a whole string, which has no delimiters before it
 pub content-sound : (d : ℕ) (multi : Bool) (n : ℕ) (text vs rest : List ℕ) → is_delimiter d ≡ true
     → content d multi n text ≡ Some (vs, rest)
     → ContentPrefix d multi 0 rest text vs

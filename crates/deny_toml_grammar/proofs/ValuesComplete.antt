@@ -1,4 +1,4 @@
--- What the grammar calls a value is read.
+-- A value of the grammar is read.
 use Rattle.std.proofs.Common.{◌≡◌, ℕ, suc, ◌+◌, ◌-◌, ◌<◌, Bool, true, false, ◌||◌, ◌==◌, List, [], ◌∷◌, ◌++◌, length}
 use Rattle.std.proofs.Common.{Some, None, refl, ap, ◌∙◌, inl, inr, arith, append_assoc, append-nil, length-append}
 use Rattle.std.proofs.lemmas.Bool.{cases_Bool, and_parts, false≢true}
@@ -11,7 +11,8 @@ use Rattle.deny_toml_grammar.specs.declared.expression.Written.{Written}
 use Rattle.deny_toml_grammar.specs.declared.expression.WrittenContent.TheVariants as written
 use Rattle.deny_toml_grammar.specs.declared.expression.Assignment.{Assignment}
 use Rattle.deny_toml_grammar.specs.Expression.{span_of, written_with, assignment_with}
-use Rattle.deny_toml_grammar.specs.Lexical.{Read, first, is_space, is_bare, is_word, skip_spaces, skip_turn, skip_from}
+use Rattle.deny_toml_grammar.specs.Lexical.{Read, first, is_space, is_bare, is_token_byte, skip_spaces, skip_turn}
+use Rattle.deny_toml_grammar.specs.Lexical.{skip_from}
 use Rattle.deny_toml_grammar.specs.private.Lexical.{skip_blank}
 use Rattle.deny_toml_grammar.specs.private.Strings.{starts_string}
 use Rattle.deny_toml_grammar.specs.Expression.{depth_limit}
@@ -25,14 +26,14 @@ use Rattle.deny_toml_grammar.specs.Grammar as grammar
 use Rattle.deny_toml_grammar.proofs.Blanks.{skip_spaces-run, skip_from-blank}
 use Rattle.deny_toml_grammar.proofs.QuotedLaws.{record_of, span_is, quoted-complete}
 use Rattle.deny_toml_grammar.proofs.KeysGrammar.{key_first, key_after-complete}
-use Rattle.deny_toml_grammar.specs.GrammarWords.{IsScalar}
-use Rattle.deny_toml_grammar.proofs.WordsGrammar.{IsWord, word_of, joins, some_word, unquoted-complete}
-use Rattle.deny_toml_grammar.proofs.WordsGrammar as words
+use Rattle.deny_toml_grammar.specs.GrammarScalars.{IsScalar}
+use Rattle.deny_toml_grammar.proofs.UnquotedGrammar.{IsToken, token_of, joins, some_token, unquoted-complete}
+use Rattle.deny_toml_grammar.proofs.UnquotedGrammar as unquoted
 use Rattle.deny_toml_grammar.proofs.ValuesLaws as laws
 
--- what a value cannot be mixed up with follows it
+-- the text after a value does not continue the value
 pub record Follows (rest : List ℕ) : Type 0 where
-  pub no_word : is_word (first rest) ≡ false
+  pub no_token : is_token_byte (first rest) ≡ false
   pub apart : joins rest ≡ false
   pub no_quote : is_delimiter (first rest) ≡ false
 
@@ -46,7 +47,7 @@ quiet c = is_end c || is_space c
 quiet_follows : (text : List ℕ) → quiet (first text) ≡ true →
     (is_space (first text) ≡ true → quiet (slice_index text 1) ≡ true) → Follows text
 quiet_follows text here next = record {
-  no_word = grind (arith, nat_tests);
+  no_token = grind (arith, nat_tests);
   apart = elim (cases_Bool (first text == 32)) [
     | inl space ↦ let after = next (grind (arith, nat_tests)) in rw space (grind (arith, nat_tests))
     | inr other ↦ rw other refl
@@ -66,8 +67,8 @@ blank_quiet blank tail (strings.newline end cs is_newline is) ends =
     rw (append_assoc end cs tail, newline_first end (cs ++ tail) is_newline) refl
 blank_quiet blank tail (strings.comment body end cs allowed all is_newline is) ends = refl
 
--- blanks and what ends a value follow it
-pub blank_follows : (blank tail : List ℕ) → IsBlank true blank → is_end (first tail) ≡ true → Follows (blank ++ tail)
+-- blanks and an end byte after a value do not continue it
+blank_follows : (blank tail : List ℕ) → IsBlank true blank → is_end (first tail) ≡ true → Follows (blank ++ tail)
 blank_follows blank tail strings.none ends = quiet_follows tail (rw ends refl)
     (λ space. absurd (grind (arith, nat_tests)))
 blank_follows blank tail (strings.space c cs space is) ends =
@@ -79,7 +80,7 @@ blank_follows blank tail (strings.newline end cs is_newline is) ends =
 blank_follows blank tail (strings.comment body end cs allowed all is_newline is) ends =
     quiet_follows (35 ∷ ((body ++ (end ++ cs)) ++ tail)) refl (λ space. absurd (false≢true space))
 
-pub spaces_blank : (spaces : List ℕ) → AreSpaces spaces → IsBlank true spaces
+spaces_blank : (spaces : List ℕ) → AreSpaces spaces → IsBlank true spaces
 spaces_blank [] all = strings.none
 spaces_blank (c ∷ spaces) all =
     let (here, rest) = and_parts (is_space c) (list_all is_space spaces) all in strings.space c spaces here
@@ -88,15 +89,16 @@ spaces_blank (c ∷ spaces) all =
 pub spaces_follows : (spaces tail : List ℕ) → AreSpaces spaces → is_end (first tail) ≡ true → Follows (spaces ++ tail)
 spaces_follows spaces tail all ends = blank_follows spaces tail (spaces_blank spaces all) ends
 
-word_first : (cs rest : List ℕ) (v : Scalar) → IsWord cs v → is_word (first (cs ++ rest)) ≡ true
-word_first cs rest v (words.word [] _ all means) = absurd (omega (arith, some_word [] v means))
-word_first cs rest v (words.word (c ∷ cs') _ all means) = (and_parts (is_word c) (list_all is_word cs') all).0
-word_first cs rest v (words.spaced c cs' d ds _ all digit all' means) =
-    (and_parts (is_word c) (list_all is_word cs') all).0
+token_first : (cs rest : List ℕ) (v : Scalar) → IsToken cs v → is_token_byte (first (cs ++ rest)) ≡ true
+token_first cs rest v (unquoted.token [] _ all means) = absurd (omega (arith, some_token [] v means))
+token_first cs rest v (unquoted.token (c ∷ cs') _ all means)
+    = (and_parts (is_token_byte c) (list_all is_token_byte cs') all).0
+token_first cs rest v (unquoted.spaced c cs' d ds _ all digit all' means) =
+    (and_parts (is_token_byte c) (list_all is_token_byte cs') all).0
 
--- a byte that begins a value
+-- whether a byte begins a value
 abbrev pub begins : ℕ → Bool
-begins c = (is_delimiter c || is_word c) || (c == 91 || c == 123)
+begins c = (is_delimiter c || is_token_byte c) || (c == 91 || c == 123)
 
 pub value_first : (depth at : ℕ) (cs rest : List ℕ) (w : Written) → IsValue depth at cs w
     → begins (first (cs ++ rest)) ≡ true
@@ -104,13 +106,13 @@ value_first depth at cs rest w (grammar.text _ _ _ _ _ (strings.one_line _ _ _ (
     rw is_d refl
 value_first depth at cs rest w (grammar.text _ _ _ _ _ (strings.multi_line _ _ _
     (strings.framed d opening inner _ is_d is_opening is))) = rw is_d refl
-value_first depth at cs rest w (grammar.word _ _ _ v is) = let here =
-    word_first cs rest v (word_of cs v is) in grind (arith, nat_tests)
+value_first depth at cs rest w (grammar.token _ _ _ v is) = let here =
+    token_first cs rest v (token_of cs v is) in grind (arith, nat_tests)
 value_first depth at cs rest w (grammar.array _ _ cs' vs is) = refl
 value_first depth at cs rest w (grammar.inline_table _ _ spaces cs' ms are_spaces is) = refl
 value_first depth at cs rest w (grammar.empty_table _ _ spaces are_spaces) = refl
 
--- what begins a value is not skipped, and closes no array
+-- the first byte of a value is not skipped, and closes no array
 value_stops : (text : List ℕ) → begins (first text) ≡ true → skip_from true false text ≡ text
 unfolding skip_from
 value_stops [] e = refl
@@ -143,7 +145,7 @@ closing_read val n found blank rest some is =
     skip_from-blank true blank (93 ∷ rest) is (skip_closing rest) in
     laws.elements_end val n found (blank ++ (93 ∷ rest)) some (rw skipped refl) ∙ rw skipped
 
--- an element, and what follows it
+-- an element, and the elements after it
 element_read : (val : List ℕ → Read Written) (n : ℕ) (found : List Written) (blank start after next : List ℕ)
     (v : Written) → 0 < n → IsBlank true blank → begins (first start) ≡ true
     → val start ≡ Some (v, after) → after_element after ≡ Some next
@@ -154,7 +156,7 @@ element_read val n found blank start after next v some is starts read follows =
     laws.elements_more val n found (blank ++ start) v after next some (rw skipped (value_not_closed start starts))
     (rw skipped read) follows
 
--- a key, `=` and what follows
+-- a key, `=` and the value
 key_read : (val : List ℕ → Read Written) (at total : ℕ) (cs spaces more start rest : List ℕ) (path : List Key)
     (v : Written) → IsKey depth_limit at cs path → AreSpaces spaces → AreSpaces more
     → begins (first start) ≡ true → val start ≡ Some (v, rest)
@@ -199,10 +201,10 @@ member_more_read val n total found text spaces more start a some are_spaces are_
     laws.members_more val n total found text a (spaces ++ (44 ∷ (more ++ start))) some read (rw skipped refl)
     ∙ rw (skipped, again)
 
--- the range of a prefix
-pub range_is : (at total : ℕ) (cs rest : List ℕ) → at + length (cs ++ rest) ≡ total
+-- the span of a prefix
+pub its_span_is : (at total : ℕ) (cs rest : List ℕ) → at + length (cs ++ rest) ≡ total
     → record_of (total - length (cs ++ rest)) (total - length rest) ≡ span_of at (length cs)
-range_is at total cs rest offset =
+its_span_is at total cs rest offset =
     let lens = length-append cs rest in
     span_is _ _ at (length cs) (omega arith) (omega arith)
 
@@ -219,20 +221,20 @@ scalar_text at total cs rest v span is follows offset =
     text_starts at cs rest v span (strings.multi_line _ _ _ (strings.framed d opening inner _ is_d is_opening is)) =
         is_d
 
-scalar_word : (at total : ℕ) (cs rest : List ℕ) (v : Scalar) → IsScalar cs v → Follows rest
+scalar_token : (at total : ℕ) (cs rest : List ℕ) (v : Scalar) → IsScalar cs v → Follows rest
     → is_delimiter (first (cs ++ rest)) ≡ false → at + length (cs ++ rest) ≡ total
     → scalar total (cs ++ rest) ≡ Some (written_with (span_of at (length cs)) (written.Scalar v), rest)
 unfolding scalar
-scalar_word at total cs rest v is follows no_string offset =
-    rw (no_string, unquoted-complete cs rest v (word_of cs v is) follows.no_word follows.apart)
-    (ap (λ s. Some (written_with s (written.Scalar v), rest)) (range_is at total cs rest offset))
+scalar_token at total cs rest v is follows no_string offset =
+    rw (no_string, unquoted-complete cs rest v (token_of cs v is) follows.no_token follows.apart)
+    (ap (λ s. Some (written_with s (written.Scalar v), rest)) (its_span_is at total cs rest offset))
 
 text_first : (at : ℕ) (cs rest : List ℕ) (v : Scalar) (span : Span) → IsText at cs v span
     → is_delimiter (first (cs ++ rest)) ≡ true
 text_first at cs rest v span (strings.one_line _ _ _ (strings.quoted d inner _ is_d is)) = is_d
 text_first at cs rest v span (strings.multi_line _ _ _ (strings.framed d opening inner _ is_d is_opening is)) = is_d
 
--- what begins a key
+-- whether a byte begins a key
 abbrev pub begins_key : ℕ → Bool
 begins_key c = is_bare c || is_delimiter c
 
@@ -278,18 +280,18 @@ four_parts a b x c d rest = rw (
 )
 
 mutual
-  -- a value is read, where nothing follows that it could be mixed up with
-  pub value-complete : (depth at total : ℕ) (cs rest : List ℕ) (w : Written) → IsValue depth at cs w → Follows rest
+  -- a value of the grammar is read where the text after it does not continue it
+  value-complete : (depth at total : ℕ) (cs rest : List ℕ) (w : Written) → IsValue depth at cs w → Follows rest
       → at + length (cs ++ rest) ≡ total
       → value depth total (cs ++ rest) ≡ Some (w, rest)
   value-complete depth at total cs rest w (grammar.text _ _ _ v span is) follows offset =
       let start = text_first at cs rest v span is in
       laws.value_scalar depth total (cs ++ rest) (grind (arith, nat_tests)) (grind (arith, nat_tests))
       ∙ scalar_text at total cs rest v span is follows offset
-  value-complete depth at total cs rest w (grammar.word _ _ _ v is) follows offset =
-      let start = word_first cs rest v (word_of cs v is) in
+  value-complete depth at total cs rest w (grammar.token _ _ _ v is) follows offset =
+      let start = token_first cs rest v (token_of cs v is) in
       laws.value_scalar depth total (cs ++ rest) (grind (arith, nat_tests)) (grind (arith, nat_tests))
-      ∙ scalar_word at total cs rest v is follows (grind (arith, nat_tests)) offset
+      ∙ scalar_token at total cs rest v is follows (grind (arith, nat_tests)) offset
   value-complete depth at total cs rest w (grammar.array depth' _ cs' vs is) follows offset =
       let text = 91 ∷ (cs' ++ rest) in
       let less : suc depth' - 1 ≡ depth' = omega arith in
@@ -297,7 +299,7 @@ mutual
       elements-complete depth' (at + 1) total [] cs' rest vs is (length text) (omega arith) (omega arith) in
       laws.value_array (suc depth') total text (omega arith) refl
       ∙ rw (less, read) (ap (λ s. Some (written_with s (written.Array vs), rest))
-      (range_is at total (91 ∷ cs') rest offset))
+      (its_span_is at total (91 ∷ cs') rest offset))
   value-complete depth at total cs rest w (grammar.inline_table depth' _ spaces cs' ms are_spaces is) follows offset =
       let text = 123 ∷ ((spaces ++ cs') ++ rest) in
       let less : suc depth' - 1 ≡ depth' = omega arith in
@@ -314,7 +316,7 @@ mutual
       (suc (length ((spaces ++ cs') ++ rest))) (omega arith) (omega arith)) in
       laws.value_table (suc depth') total text (omega arith) refl refl
       ∙ rw (less, inner) (ap (λ s. Some (written_with s (written.InlineTable ms), rest))
-      (range_is at total (123 ∷ (spaces ++ cs')) rest offset))
+      (its_span_is at total (123 ∷ (spaces ++ cs')) rest offset))
   value-complete depth at total cs rest w (grammar.empty_table depth' _ spaces are_spaces) follows offset =
       let text = 123 ∷ ((spaces ++ 125 ∷ []) ++ rest) in
       let less : suc depth' - 1 ≡ depth' = omega arith in
@@ -326,7 +328,7 @@ mutual
       ∙ rw skipped in
       laws.value_table (suc depth') total text (omega arith) refl refl
       ∙ rw (less, inner) (ap (λ s. Some (written_with s (written.InlineTable []), rest))
-      (range_is at total (123 ∷ (spaces ++ 125 ∷ [])) rest offset))
+      (its_span_is at total (123 ∷ (spaces ++ 125 ∷ [])) rest offset))
 
   elements-complete : (depth at total : ℕ) (found : List Written) (cs rest : List ℕ) (vs : List Written)
       → IsElements depth at cs vs → (n : ℕ) → length (cs ++ rest) < n

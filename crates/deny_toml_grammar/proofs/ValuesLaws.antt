@@ -1,4 +1,4 @@
--- The readers of values, a turn at a time.
+-- The readers of values, step by step.
 use Rattle.std.proofs.Common.{◌≡◌, ℕ, zero, suc, ◌-◌, ◌<◌, ◌||◌, ◌==◌, true, false, List, [], ◌∷◌, ◌++◌, length, drop}
 use Rattle.std.proofs.Common.{Some, None, option_map, refl, inl, inr, arith}
 use Rattle.std.proofs.lemmas.Bool.{false≢true, cases_Bool}
@@ -8,9 +8,9 @@ use Rattle.deny_toml_grammar.specs.declared.expression.Written.{Written}
 use Rattle.deny_toml_grammar.specs.declared.expression.WrittenContent.TheVariants as written
 use Rattle.deny_toml_grammar.specs.declared.expression.Assignment.{Assignment}
 use Rattle.deny_toml_grammar.specs.Expression.{assignment_with}
-use Rattle.deny_toml_grammar.specs.Lexical.{Read, first, is_word, skip_spaces, skip_from}
+use Rattle.deny_toml_grammar.specs.Lexical.{Read, first, is_token_byte, skip_spaces, skip_from}
 use Rattle.deny_toml_grammar.specs.private.Lexical.{skip_blank}
-use Rattle.deny_toml_grammar.specs.private.Words.{unquoted, word_len}
+use Rattle.deny_toml_grammar.specs.private.Unquoted.{unquoted, token_len}
 use Rattle.deny_toml_grammar.specs.private.Keys.{key}
 use Rattle.deny_toml_grammar.specs.private.Values.{scalar, after_element, elements, assigned, assignment, members}
 use Rattle.deny_toml_grammar.specs.private.Values.{inline_table, value, whole}
@@ -162,13 +162,13 @@ unfolding value
 value_table zero total text some a b = absurd (omega arith)
 value_table (suc depth) total text some a b = let less : suc depth - 1 ≡ depth = omega arith in rw (less, a, b)
 
--- at the end of the depth a bracket is no value
+-- where no depth is left, a bracket begins no value
 pub value_deep : (total : ℕ) (text : List ℕ) → ((first text == 91) || (first text == 123)) ≡ true
     → value 0 total text ≡ None
-unfolding value scalar unquoted word_len
+unfolding value scalar unquoted token_len
 value_deep total [] h = absurd (false≢true h)
 value_deep total (c ∷ cs) h =
     let not_quote : (c == 34) ≡ false = grind (arith, nat_tests) in
     let not_apostrophe : (c == 39) ≡ false = grind (arith, nat_tests) in
-    let not_word : is_word c ≡ false = grind (arith, nat_tests) in
-    rw (not_quote, not_apostrophe, not_word)
+    let not_token : is_token_byte c ≡ false = grind (arith, nat_tests) in
+    rw (not_quote, not_apostrophe, not_token)

@@ -1,4 +1,4 @@
--- What is read as a value is in the grammar.
+-- A value that is read is in the grammar.
 use Rattle.std.proofs.Common.{◌≡◌, ℕ, zero, suc, ◌+◌, ◌-◌, ◌≤◌, true, false, ◌==◌, List, [], ◌∷◌, ◌++◌, length, drop}
 use Rattle.std.proofs.Common.{Option, Some, None, option_map, ap, refl, sym, subst}
 use Rattle.std.proofs.Common.{subst₂, ◌∙◌, inl, inr, arith, le_trans}
@@ -18,7 +18,7 @@ use Rattle.deny_toml_grammar.specs.private.Lexical.{skip_blank}
 use Rattle.deny_toml_grammar.specs.private.Reading.{read_map}
 use Rattle.deny_toml_grammar.specs.Strings.{quoted}
 use Rattle.deny_toml_grammar.specs.private.Strings.{starts_string}
-use Rattle.deny_toml_grammar.specs.private.Words.{unquoted}
+use Rattle.deny_toml_grammar.specs.private.Unquoted.{unquoted}
 use Rattle.deny_toml_grammar.specs.Expression.{depth_limit}
 use Rattle.deny_toml_grammar.specs.private.Keys.{key}
 use Rattle.deny_toml_grammar.specs.private.Values.{quoted_value, whole, scalar, after_element, elements, assigned}
@@ -31,11 +31,11 @@ use Rattle.deny_toml_grammar.proofs.StringsSound.{read_of, read_same, SpacesPref
 use Rattle.deny_toml_grammar.proofs.StringsSound.{BytePrefix, byte_prefix, byte_found}
 use Rattle.deny_toml_grammar.proofs.QuotedLaws.{Prefix, prefix, WholeText, record_of, quoted-sound}
 use Rattle.deny_toml_grammar.proofs.KeysGrammar.{KeyPrefix, key_prefix, key_after-sound}
-use Rattle.deny_toml_grammar.proofs.WordsGrammar.{IsWord, scalar_of, unquoted-sound}
-use Rattle.deny_toml_grammar.proofs.ValuesComplete.{begins, value_first, range_is}
+use Rattle.deny_toml_grammar.proofs.UnquotedGrammar.{IsToken, scalar_of, unquoted-sound}
+use Rattle.deny_toml_grammar.proofs.ValuesComplete.{begins, value_first, its_span_is}
 use Rattle.deny_toml_grammar.proofs.ValuesLaws as laws
 
--- a scalar
+-- a string that is read as a value
 text_found : (depth total : ℕ) (text rest : List ℕ) (w : Written) (o : Read (Spanned Scalar))
     → starts_string text ≡ true → length text ≤ total → quoted total text ≡ o
     → read_map quoted_value o ≡ read_of w rest → Prefix (IsValue depth (total - length text)) rest text w
@@ -49,26 +49,26 @@ text_found depth total text rest w (Some (s, r)) starts within is e =
     text_prefix depth at r text s (prefix cs _ is) = prefix cs (quoted_value s)
         (grammar.text depth at cs s.value s.span is)
 
-word_prefix : (depth total : ℕ) (text rest : List ℕ) (v : Scalar) → length text ≤ total → Prefix IsWord rest text v
+token_prefix : (depth total : ℕ) (text rest : List ℕ) (v : Scalar) → length text ≤ total → Prefix IsToken rest text v
     → Prefix (IsValue depth (total - length text)) rest text
     (written_with (record_of (total - length text) (total - length rest)) (written.Scalar v))
-word_prefix depth total text rest v within (prefix cs _ is) =
+token_prefix depth total text rest v within (prefix cs _ is) =
     let at = total - length (cs ++ rest) in
     let offset : at + length (cs ++ rest) ≡ total = omega arith in
     subst (λ s. Prefix (IsValue depth at) rest (cs ++ rest) (written_with s (written.Scalar v)))
-    (sym (range_is at total cs rest offset))
+    (sym (its_span_is at total cs rest offset))
     (prefix cs (written_with (span_of at (length cs)) (written.Scalar v))
-    (grammar.word depth at cs v (scalar_of cs v is)))
+    (grammar.token depth at cs v (scalar_of cs v is)))
 
-word_found : (depth total : ℕ) (text rest : List ℕ) (w : Written) (o : Read Scalar) → length text ≤ total
+token_found : (depth total : ℕ) (text rest : List ℕ) (w : Written) (o : Read Scalar) → length text ≤ total
     → unquoted text ≡ o
     → option_map (whole written.Scalar total text) o ≡ read_of w rest
     → Prefix (IsValue depth (total - length text)) rest text w
-word_found depth total text rest w None within is e = absurd (none-some (w, rest) e)
-word_found depth total text rest w (Some (v, r)) within is e =
+token_found depth total text rest w None within is e = absurd (none-some (w, rest) e)
+token_found depth total text rest w (Some (v, r)) within is e =
     read_same (λ x t. Prefix (IsValue depth (total - length text)) t text x)
     (written_with (record_of (total - length text) (total - length r)) (written.Scalar v)) w r rest e
-    (word_prefix depth total text r v within (unquoted-sound text r v is))
+    (token_prefix depth total text r v within (unquoted-sound text r v is))
 
 scalar-sound : (depth total : ℕ) (text rest : List ℕ) (w : Written) → length text ≤ total
     → scalar total text ≡ read_of w rest → Prefix (IsValue depth (total - length text)) rest text w
@@ -76,10 +76,10 @@ unfolding scalar
 scalar-sound depth total text rest w within e =
     elim (cases_Bool (starts_string text)) [
       | inl starts ↦ text_found depth total text rest w (quoted total text) starts within refl (rw starts at e)
-      | inr other ↦ word_found depth total text rest w (unquoted text) within refl (rw other at e)
+      | inr other ↦ token_found depth total text rest w (unquoted text) within refl (rw other at e)
     ]
 
--- what comes next after blanks, where it is no control character
+-- blanks and the text after them, which does not begin with a control character
 data BlankPrefix (start : List ℕ) : List ℕ → Type 0 where
   blank_prefix : (blank : List ℕ) → IsBlank true blank → BlankPrefix start (blank ++ start)
 
@@ -91,7 +91,7 @@ blank_found text inked = of_skipped (skip_blank text) text inked (skip_from_foun
     of_skipped start text inked (done blank is) = blank_prefix blank is
     of_skipped start text inked (unclosed blank body allowed is all stop) = absurd (true≢false (sym inked ∙ stop))
 
--- what follows an element
+-- the text after an element: a comma, or the closing bracket
 data AfterPrefix : List ℕ → List ℕ → Type 0 where
   comma : (blank rest : List ℕ) → IsBlank true blank → AfterPrefix (blank ++ (44 ∷ rest)) rest
   closing : (blank rest : List ℕ) → IsBlank true blank → AfterPrefix (blank ++ (93 ∷ rest)) (93 ∷ rest)
@@ -123,12 +123,12 @@ after_element-sound text next e =
       ]
     ]
 
--- what holds of the values inside, which are less deep
+-- values of a smaller depth that are read are in the grammar
 abbrev ValueSound : ℕ → ℕ → Type 0
 ValueSound depth total = (text rest : List ℕ) (w : Written) → length text ≤ total
     → value depth total text ≡ read_of w rest → Prefix (IsValue depth (total - length text)) rest text w
 
--- the rest of an array at the start, after the elements found before
+-- the rest of an array at the start of a text, after the elements found before
 data ElementsPrefix (depth at : ℕ) (found : List Written) (rest : List ℕ) : List ℕ → List Written → Type 0 where
   elements_prefix : (cs : List ℕ) (vs : List Written) → IsElements depth at cs vs
       → ElementsPrefix depth at found rest (cs ++ rest) (found ++ vs)
@@ -407,7 +407,7 @@ assignment_of : (depth total : ℕ) (text rest : List ℕ) (a : Assignment) → 
 assignment_of depth total text rest a sound within e = assignment_by depth total text rest a (key total text) sound
     within refl e
 
--- the rest of an inline table at the start, after the keys found before
+-- the rest of an inline table at the start of a text, after the keys found before
 data MembersPrefix (depth at : ℕ) (found : List Assignment) (rest : List ℕ) : List ℕ → List Assignment → Type 0 where
   members_prefix : (cs : List ℕ) (ms : List Assignment) → IsMembers depth at cs ms
       → MembersPrefix depth at found rest (cs ++ rest) (found ++ ms)
@@ -521,7 +521,7 @@ array_prefix depth total tail rest vs within (elements_prefix cs vs' is) =
     let inner : total - length (cs ++ rest) ≡ at + 1 = omega arith in
     let offset : at + length ((91 ∷ cs) ++ rest) ≡ total = omega arith in
     subst (λ s. Prefix (IsValue (suc depth) at) rest (91 ∷ (cs ++ rest)) (written_with s (written.Array vs')))
-    (sym (range_is at total (91 ∷ cs) rest offset))
+    (sym (its_span_is at total (91 ∷ cs) rest offset))
     (prefix (91 ∷ cs) (written_with (span_of at (length (91 ∷ cs))) (written.Array vs'))
     (grammar.array depth at cs vs' (subst (λ a. IsElements depth a cs vs') inner is)))
 
@@ -556,7 +556,7 @@ empty_prefix depth total tail (c ∷ rest) within e (spaces_prefix spaces are_sp
         let joined : (spaces ++ 125 ∷ []) ++ rest ≡ spaces ++ (125 ∷ rest) = append_assoc spaces (125 ∷ []) rest in
         let at = total - length (123 ∷ (spaces ++ (125 ∷ rest))) in
         let offset : at + length ((123 ∷ (spaces ++ 125 ∷ [])) ++ rest) ≡ total = rw joined (omega arith) in
-        let span = range_is at total (123 ∷ (spaces ++ 125 ∷ [])) rest offset in
+        let span = its_span_is at total (123 ∷ (spaces ++ 125 ∷ [])) rest offset in
         let span' : record_of at (total - length rest) ≡ span_of at (length (123 ∷ (spaces ++ 125 ∷ []))) =
         rw joined at span in
         let here : Prefix (IsValue (suc depth) at) rest (123 ∷ (spaces ++ (125 ∷ rest)))
@@ -578,7 +578,7 @@ table_prefix depth total spaces inner rest ms within are_spaces (members_prefix 
     let at_is : total - length (cs ++ rest) ≡ at + 1 + length spaces = omega arith in
     let offset : at + length ((123 ∷ (spaces ++ cs)) ++ rest) ≡ total = rw joined (omega arith) in
     let span' : record_of at (total - length rest) ≡ span_of at (length (123 ∷ (spaces ++ cs))) =
-    rw joined at (range_is at total (123 ∷ (spaces ++ cs)) rest offset) in
+    rw joined at (its_span_is at total (123 ∷ (spaces ++ cs)) rest offset) in
     let here : Prefix (IsValue (suc depth) at) rest (123 ∷ (spaces ++ (cs ++ rest)))
     (written_with (span_of at (length (123 ∷ (spaces ++ cs)))) (written.InlineTable ms')) =
     subst (λ t. Prefix (IsValue (suc depth) at) rest (123 ∷ t)
@@ -650,8 +650,8 @@ bracket_by depth total c tail rest w sound within e =
       ]
     ]
 
--- what is read as a value
-pub value-sound : (depth total : ℕ) → ValueSound depth total
+-- a value that is read is in the grammar
+value-sound : (depth total : ℕ) → ValueSound depth total
 value-sound zero total text rest w within e = scalar-sound 0 total text rest w within
     (sym (laws.value_zero total text) ∙ e)
 value-sound (suc depth) total [] rest w within e =
@@ -659,7 +659,7 @@ value-sound (suc depth) total [] rest w within e =
 value-sound (suc depth) total (c ∷ tail) rest w within e = bracket_by depth total c tail rest w
     (value-sound depth total) within e
 
--- what is read as a key and its value
+-- an assignment that is read is in the grammar
 pub assignment-sound : (depth total : ℕ) (text rest : List ℕ) (a : Assignment) → length text ≤ total
     → assignment (value depth total) total text ≡ read_of a rest
     → Prefix (IsAssignment depth (total - length text)) rest text a

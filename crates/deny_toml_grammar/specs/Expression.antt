@@ -7,7 +7,7 @@ use Rattle.deny_toml_grammar.specs.declared.expression.Written.{Written, out-Wri
 use Rattle.deny_toml_grammar.specs.declared.expression.WrittenContent.{WrittenContent}
 use Rattle.deny_toml_grammar.specs.declared.expression.Assignment.{Assignment, out-Assignment, roll-Assignment}
 
--- the range that begins at an offset and is so long
+-- the span that begins at an offset and has this length
 abbrev pub span_of : ℕ → ℕ → Span
 span_of at len = record { start = at; end = at + len }
 
@@ -32,6 +32,6 @@ assigned_value a = (out-Assignment a).value
 abbrev pub header_with : Bool → List Key → Header
 header_with is_array path = record { path = path; is_array = is_array }
 
--- the most parts of a key, and the most arrays and inline tables in one another
+-- the largest number of parts of a key, and of arrays and inline tables nested in one another
 abbrev pub depth_limit : ℕ
 depth_limit = 64

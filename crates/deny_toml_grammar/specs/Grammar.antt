@@ -7,12 +7,12 @@ use Rattle.deny_toml_grammar.specs.declared.parts.Scalar.{Scalar}
 use Rattle.deny_toml_grammar.specs.declared.expression.Written.{Written}
 use Rattle.deny_toml_grammar.specs.declared.expression.WrittenContent.TheVariants as written
 use Rattle.deny_toml_grammar.specs.declared.expression.Assignment.{Assignment}
-use Rattle.deny_toml_grammar.specs.declared.expression.Expression.{Expression}
-use Rattle.deny_toml_grammar.specs.declared.expression.Expression.TheVariants as expression
+use Rattle.deny_toml_grammar.specs.declared.expression.TomlExpression.{TomlExpression}
+use Rattle.deny_toml_grammar.specs.declared.expression.TomlExpression.TheVariants as expression
 use Rattle.deny_toml_grammar.specs.Expression.{span_of}
 use Rattle.deny_toml_grammar.specs.Expression.{written_with, assignment_with, depth_limit, header_with}
 use Rattle.deny_toml_grammar.specs.Lexical.{is_bare, is_comment_byte}
-use Rattle.deny_toml_grammar.specs.GrammarWords.{IsScalar}
+use Rattle.deny_toml_grammar.specs.GrammarScalars.{IsScalar}
 use Rattle.deny_toml_grammar.specs.GrammarStrings.{AreSpaces, IsNewline, IsBlank, IsOneLine, IsText}
 
 -- one part of a key
@@ -22,7 +22,7 @@ pub data IsPart (at : ℕ) : List ℕ → Key → Type 0 where
   quoted : (cs name : List ℕ) (span : Span) → IsOneLine at cs name span
       → IsPart at cs (record { name = name; span = span })
 
--- a key of at most so many parts, with dots between them
+-- a key of at most this many parts, with dots between them
 pub data IsKey : ℕ → ℕ → List ℕ → List Key → Type 0 where
   last : (left at : ℕ) (cs : List ℕ) (part : Key) → IsPart at cs part → IsKey (suc left) at cs (part ∷ [])
   dotted : (left at : ℕ) (cs spaces more rest : List ℕ) (part : Key) (path : List Key) → IsPart at cs part
@@ -31,11 +31,11 @@ pub data IsKey : ℕ → ℕ → List ℕ → List Key → Type 0 where
       → IsKey (suc left) at (cs ++ (spaces ++ 46 ∷ (more ++ rest))) (part ∷ path)
 
 mutual
-  -- a value at an offset, with arrays and inline tables at most so deep
+  -- a value at an offset, with arrays and inline tables nested to at most this depth
   pub data IsValue : ℕ → ℕ → List ℕ → Written → Type 0 where
     text : (depth at : ℕ) (cs : List ℕ) (value : Scalar) (span : Span) → IsText at cs value span
         → IsValue depth at cs (written_with span (written.Scalar value))
-    word : (depth at : ℕ) (cs : List ℕ) (value : Scalar) → IsScalar cs value
+    token : (depth at : ℕ) (cs : List ℕ) (value : Scalar) → IsScalar cs value
         → IsValue depth at cs (written_with (span_of at (length cs)) (written.Scalar value))
     array : (depth at : ℕ) (cs : List ℕ) (elements : List Written) → IsElements depth (at + 1) cs elements
         → IsValue (suc depth) at (91 ∷ cs) (written_with (span_of at (length (91 ∷ cs))) (written.Array elements))
@@ -47,7 +47,7 @@ mutual
         → IsValue (suc depth) at (123 ∷ (spaces ++ 125 ∷ []))
         (written_with (span_of at (length (123 ∷ (spaces ++ 125 ∷ [])))) (written.InlineTable []))
 
-  -- what follows the bracket of an array
+  -- the elements of an array, from after its opening bracket to its closing one
   pub data IsElements : ℕ → ℕ → List ℕ → List Written → Type 0 where
     closed : (depth at : ℕ) (blank : List ℕ) → IsBlank true blank → IsElements depth at (blank ++ 93 ∷ []) []
     last_element : (depth at : ℕ) (blank cs more : List ℕ) (value : Written) → IsBlank true blank
@@ -78,7 +78,7 @@ mutual
         → IsAssignment depth at (key ++ (spaces ++ 61 ∷ (after ++ cs))) (assignment_with path value)
 
 -- a header, or a key and its value
-pub data IsExpression (at : ℕ) : List ℕ → Expression → Type 0 where
+pub data IsExpression (at : ℕ) : List ℕ → TomlExpression → Type 0 where
   table : (spaces cs after : List ℕ) (path : List Key) → AreSpaces spaces
       → IsKey depth_limit (at + 1 + length spaces) cs path → AreSpaces after
       → IsExpression at (91 ∷ (spaces ++ (cs ++ (after ++ 93 ∷ [])))) (expression.Header (header_with false path))
@@ -94,20 +94,21 @@ pub data IsComment : List ℕ → Type 0 where
   none : IsComment []
   comment : (body : List ℕ) → list_all is_comment_byte body ≡ true → IsComment (35 ∷ body)
 
--- a line without its line end, and what it says
-pub data IsLine (at : ℕ) : List ℕ → List Expression → Type 0 where
+-- a line without its line end, and its expressions, of which there is at most one
+pub data IsLine (at : ℕ) : List ℕ → List TomlExpression → Type 0 where
   blank : (spaces comment : List ℕ) → AreSpaces spaces → IsComment comment → IsLine at (spaces ++ comment) []
-  says : (spaces cs after comment : List ℕ) (e : Expression) → AreSpaces spaces → IsExpression (at + length spaces) cs e
+  says : (spaces cs after comment : List ℕ) (e : TomlExpression) → AreSpaces spaces
+      → IsExpression (at + length spaces) cs e
       → AreSpaces after
       → IsComment comment → IsLine at (spaces ++ (cs ++ (after ++ comment))) (e ∷ [])
 
 -- lines with line ends between them
-pub data AreLines : ℕ → List ℕ → List Expression → Type 0 where
-  last : (at : ℕ) (cs : List ℕ) (es : List Expression) → IsLine at cs es → AreLines at cs es
-  more : (at : ℕ) (cs end rest : List ℕ) (es fs : List Expression) → IsLine at cs es → IsNewline end
+pub data AreLines : ℕ → List ℕ → List TomlExpression → Type 0 where
+  last : (at : ℕ) (cs : List ℕ) (es : List TomlExpression) → IsLine at cs es → AreLines at cs es
+  more : (at : ℕ) (cs end rest : List ℕ) (es fs : List TomlExpression) → IsLine at cs es → IsNewline end
       → AreLines (at + length cs + length end) rest fs
       → AreLines at (cs ++ (end ++ rest)) (es ++ fs)
 
 -- The text writes these expressions.
-abbrev pub IsDocument : List ℕ → List Expression → Type 0
+abbrev pub IsDocument : List ℕ → List TomlExpression → Type 0
 IsDocument cs es = AreLines 0 cs es

@@ -19,7 +19,7 @@ pub data IsNewline : List ℕ → Type 0 where
   line_feed : IsNewline (10 ∷ [])
   both : IsNewline (13 ∷ 10 ∷ [])
 
--- spaces, tabs and line ends, and where they are allowed comments, each with its line end
+-- spaces, tabs and line ends, and comments with their line ends where these are allowed
 pub data IsBlank (comments : Bool) : List ℕ → Type 0 where
   none : IsBlank comments []
   space : (c : ℕ) (cs : List ℕ) → is_space c ≡ true → IsBlank comments cs → IsBlank comments (c ∷ cs)
@@ -28,7 +28,7 @@ pub data IsBlank (comments : Bool) : List ℕ → Type 0 where
       → IsBlank comments cs
       → IsBlank comments (35 ∷ (body ++ (end ++ cs)))
 
--- what stands after a backslash, and the character that it writes
+-- the text of an escape after its backslash, and the character that it writes
 pub data IsEscape : List ℕ → ℕ → Type 0 where
   letter : (c v : ℕ) → letter_escape c ≡ Some v → IsEscape (c ∷ []) v
   short : (digits : List ℕ) → length digits ≡ 4 → writes_scalar digits ≡ true
@@ -41,8 +41,7 @@ pub record IsInk (cs : List ℕ) : Type 0 where
   pub no_space : is_space (first cs) ≡ false
   pub no_newline : starts_newline cs ≡ false
 
--- What a string holds and the bytes that it stands for, on one line or several, where so many delimiters stand just
--- before.
+-- the content of a one-line or multi-line string and the bytes that it writes, where this many delimiters precede it
 pub data IsContent (delimiter : ℕ) (multi : Bool) : ℕ → List ℕ → List ℕ → Type 0 where
   end : (before : ℕ) → IsContent delimiter multi before [] []
   plain : (before c : ℕ) (cs vs : List ℕ) → is_plain delimiter multi c ≡ true → IsContent delimiter multi 0 cs vs
@@ -56,7 +55,7 @@ pub data IsContent (delimiter : ℕ) (multi : Bool) : ℕ → List ℕ → List 
   escape : (before c : ℕ) (escaped cs vs : List ℕ) → delimiter ≡ 34 → IsEscape escaped c
       → IsContent delimiter multi 0 cs vs
       → IsContent delimiter multi before (92 ∷ (escaped ++ cs)) (encode_utf8 c ++ vs)
-  -- a backslash at the end of a line cuts what is blank up to the next ink or the closing delimiters
+  -- a backslash at the end of a line removes the blanks up to the next ink or the closing delimiters
   cut : (before : ℕ) (spaces end blank cs vs : List ℕ) → multi ≡ true → delimiter ≡ 34 → AreSpaces spaces
       → IsNewline end → IsBlank false blank
       → IsInk cs → IsContent delimiter multi 0 cs vs → IsContent delimiter multi before
@@ -66,17 +65,17 @@ pub data IsContent (delimiter : ℕ) (multi : Bool) : ℕ → List ℕ → List 
 abbrev pub is_delimiter : ℕ → Bool
 is_delimiter c = c == 34 || c == 39
 
--- a string on one line at an offset, the bytes that it stands for, and the range between its delimiters
+-- a one-line string at an offset, the bytes that it writes, and the span between its delimiters
 pub data IsOneLine (at : ℕ) : List ℕ → List ℕ → Span → Type 0 where
   quoted : (delimiter : ℕ) (cs vs : List ℕ) → is_delimiter delimiter ≡ true → IsContent delimiter false 0 cs vs
       → IsOneLine at (delimiter ∷ (cs ++ delimiter ∷ [])) vs (span_of (at + 1) (length cs))
 
--- A line end right after the opening delimiters is left out.
+-- the line end right after the opening delimiters, which is left out, or nothing
 pub data IsOpening : List ℕ → List ℕ → Type 0 where
   same_line : (cs : List ℕ) → starts_newline cs ≡ false → IsOpening [] cs
   next_line : (end cs : List ℕ) → IsNewline end → IsOpening end cs
 
--- a string on several lines at an offset, the bytes that it stands for, and the range between its delimiters
+-- a multi-line string at an offset, the bytes that it writes, and the span between its delimiters
 pub data IsMultiLine (at : ℕ) : List ℕ → List ℕ → Span → Type 0 where
   framed : (delimiter : ℕ) (opening cs vs : List ℕ) → is_delimiter delimiter ≡ true → IsOpening opening cs
       → IsContent delimiter true 0 cs vs

@@ -1,11 +1,11 @@
--- The bytes of TOML and their classes, and what stands between its parts.
+-- The bytes of TOML and their classes, and the blanks between its parts.
 use Rattle.std.specs.Prelude.{ℕ, Bool, true, false, not, ◌&&◌, ◌||◌, ◌==◌, ◌-◌, length, nat_le, if◌then◌else◌, List, []}
 use Rattle.std.specs.Prelude.{◌∷◌, take, drop, slice_index, Option, Some, None, is_some, unwrap_or}
 use Rattle.std.specs.List.{prefix_len}
 use Rattle.std.specs.Char.{is_ascii_alphanumeric, is_ascii_digit}
 use Rattle.deny_base.specs.declared.span.Span.{Span}
 
--- what a reader gives: what it has read and the text after it, or that the text does not begin so
+-- the result of a reader: what it has read and the text after it, or none where the text does not begin so
 abbrev pub Read : Type 0 → Type 0
 Read A = Option (A × List ℕ)
 
@@ -74,25 +74,25 @@ first text = slice_index text 0
 abbrev pub is_space : ℕ → Bool
 is_space c = c == space || c == tab
 
--- A byte that a comment can hold: none of the control characters but the tab. From 128 on it is part of a character
--- past ASCII.
+-- a byte that a comment can hold: no control character but the tab; bytes from 128 on are part of a character past
+-- ASCII
 abbrev pub is_comment_byte : ℕ → Bool
 is_comment_byte c = c == tab || (nat_le 32 c && not (c == 127))
 
--- a byte of a key without quotes
+-- a byte of a bare key
 abbrev pub is_bare : ℕ → Bool
 is_bare c = (is_ascii_alphanumeric c || c == dash) || c == underscore
 
--- a byte of a boolean, a number or a date
-abbrev pub is_word : ℕ → Bool
-is_word c = ((is_bare c || c == plus) || c == dot) || c == colon
+-- a byte of an unquoted value: a boolean, a number or a date
+abbrev pub is_token_byte : ℕ → Bool
+is_token_byte c = ((is_bare c || c == plus) || c == dot) || c == colon
 
 -- a byte of the digits of a decimal number with underscores between them
 abbrev pub is_grouped : ℕ → Bool
 is_grouped c = is_ascii_digit c || c == underscore
 
--- The byte stands for itself in a string with this delimiter, on one line or on several. Only a string in quotes has
--- escapes.
+-- a byte that writes itself in a string with this delimiter, on one line or on several; only a string in quotes has
+-- escapes
 abbrev pub is_plain : ℕ → Bool → ℕ → Bool
 is_plain delimiter multi c =
     (not (c == delimiter) && not (c == backslash && delimiter == quote)) &&
@@ -102,11 +102,11 @@ is_plain delimiter multi c =
 abbrev pub starts_newline : List ℕ → Bool
 starts_newline text = first text == line_feed || (first text == carriage_return && slice_index text 1 == line_feed)
 
--- the longest prefix whose bytes pass, and the rest
+-- the longest prefix whose bytes pass the test, and the rest
 abbrev pub split_while : (ℕ → Bool) → List ℕ → List ℕ × List ℕ
 split_while p text = (take (prefix_len p text) text, drop (prefix_len p text) text)
 
--- after spaces and tabs
+-- the text after spaces and tabs
 unfoldable pub skip_spaces : List ℕ → List ℕ
 skip_spaces text = (split_while is_space text).1
 
@@ -118,17 +118,18 @@ skip_turn comments inside c next =
     else if (comments && not inside) && c == hash then Some true
     else None
 
--- After spaces, tabs and line ends, and after comments where they are allowed. `inside` says that a comment has begun.
+-- the text after spaces, tabs and line ends, and after comments where they are allowed; `inside` says whether a comment
+-- has begun
 unfoldable pub skip_from : Bool → Bool → List ℕ → List ℕ
 skip_from comments inside [] = []
 skip_from comments inside (c ∷ cs) =
     if is_some (skip_turn comments inside c (first cs))
     then skip_from comments (unwrap_or (skip_turn comments inside c (first cs)) false) cs else c ∷ cs
 
--- after spaces, tabs and line ends
+-- the text after spaces, tabs and line ends
 abbrev pub skip_lines : List ℕ → List ℕ
 skip_lines text = skip_from false false text
 
--- the range from the offset of `from` to that of `rest`, both ends of a text of so many bytes
+-- the span from the offset of `from` to that of `rest`, both suffixes of a text of `total` bytes
 abbrev pub between : ℕ → List ℕ → List ℕ → Span
 between total from rest = record { start = total - length from; end = total - length rest }

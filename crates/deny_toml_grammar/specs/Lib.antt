@@ -3,7 +3,7 @@ pub mod Lexical
 pub mod Strings
 pub mod Numbers
 pub mod GrammarStrings
-pub mod GrammarWords
+pub mod GrammarScalars
 pub mod Grammar
-pub mod Ranges
+pub mod Spans
 pub mod private

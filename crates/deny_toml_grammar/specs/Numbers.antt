@@ -11,21 +11,21 @@ use Rattle.deny_toml_grammar.specs.Lexical.{plus, dash, dot, underscore, first, 
 abbrev pub is_decimal_digit : ℕ → Bool
 is_decimal_digit c = is_digit c 10
 
--- The digits of a base, with single underscores between them. `after_digit` says that a digit stands just before.
+-- the digits of a base, with single underscores between them; `after_digit` says whether a digit precedes
 abbrev pub groups : (ℕ → Bool) → Bool → List ℕ → Bool
 groups p after_digit [] = after_digit
 groups p after_digit (c ∷ cs) = if p c then groups p true cs else if after_digit && c == underscore then groups p false
     cs else false
 
--- at least one digit, and each underscore between two digits
+-- at least one digit, with each underscore between two digits
 abbrev pub are_digits : (ℕ → Bool) → List ℕ → Bool
 are_digits p cs = groups p false cs
 
--- without the underscores
+-- the digits without the underscores
 abbrev pub digits_alone : List ℕ → List ℕ
 digits_alone cs = filter (λ c. not (c == underscore)) cs
 
--- The number that digits write after those of `value`, if it is at most 2^63 and each byte is a digit or an underscore.
+-- the number that digits write after those of `value`, if it is at most 2^63 and each byte is a digit or an underscore
 abbrev pub bounded_after : ℕ → ℕ → List ℕ → Option ℕ
 bounded_after radix value cs =
     let n = digits_value_after radix value (digits_alone cs) in
@@ -34,27 +34,27 @@ bounded_after radix value cs =
 abbrev pub bounded_value : ℕ → List ℕ → Option ℕ
 bounded_value radix cs = bounded_after radix 0 cs
 
--- a number with its sign, if 64 bits hold it
+-- a number with its sign, if it fits 64 bits
 abbrev pub signed : Bool → ℕ → Option ℤ
 signed negative n =
     if negative then (if nat_le n (2 ^ 63) then Some (neg_ℤ (pos n)) else None)
     else if nat_lt n (2 ^ 63) then Some (pos n) else None
 
--- the base that a prefix `0x`, `0o` or `0b` names, or 10
+-- the base that the prefix `0x`, `0o` or `0b` names, or 10
 abbrev pub radix_of : List ℕ → ℕ
-radix_of word =
-    if not (first word == 48) then 10
-    else if slice_index word 1 == 120 then 16
-    else if slice_index word 1 == 111 then 8
-    else if slice_index word 1 == 98 then 2
+radix_of token =
+    if not (first token == 48) then 10
+    else if slice_index token 1 == 120 then 16
+    else if slice_index token 1 == 111 then 8
+    else if slice_index token 1 == 98 then 2
     else 10
 
--- the digits of another base, after the prefix
+-- the integer that the digits of another base write, after the prefix
 unfoldable pub prefixed_integer : ℕ → List ℕ → Option ℤ
 prefixed_integer radix digits = if are_digits (λ c. is_digit c radix) digits then option_and_then (signed false)
     (bounded_value radix digits) else None
 
--- the digits of a decimal number, without a zero before another digit
+-- the digits of a decimal number, without a leading zero
 abbrev pub is_decimal : List ℕ → Bool
 is_decimal digits = are_digits is_decimal_digit digits && (length digits == 1 || not (first digits == 48))
 
@@ -64,16 +64,16 @@ decimal_integer negative digits = if is_decimal digits then option_and_then (sig
     else None
 
 abbrev pub has_sign : List ℕ → Bool
-has_sign word = first word == plus || first word == dash
+has_sign token = first token == plus || first token == dash
 
 abbrev pub without_sign : List ℕ → List ℕ
-without_sign word = if has_sign word then drop 1 word else word
+without_sign token = if has_sign token then drop 1 token else token
 
 -- an integer in any base
 unfoldable pub integer : List ℕ → Option ℤ
-integer word =
-    if radix_of word == 10 then decimal_integer (first word == dash) (without_sign word)
-    else prefixed_integer (radix_of word) (drop 2 word)
+integer token =
+    if radix_of token == 10 then decimal_integer (first token == dash) (without_sign token)
+    else prefixed_integer (radix_of token) (drop 2 token)
 
 -- `e` and digits, with a sign or without
 abbrev pub is_exponent : List ℕ → Bool
@@ -101,9 +101,9 @@ is_unsigned_float cs =
 
 -- a float
 abbrev pub is_float : List ℕ → Bool
-is_float word = is_unsigned_float (without_sign word)
+is_float token = is_unsigned_float (without_sign token)
 
--- one byte more of `bounded_value`
+-- the value of a number with one more byte
 unfoldable pub next_value : ℕ → ℕ → ℕ → Option ℕ
 next_value radix value c =
     if c == underscore then Some value

@@ -14,7 +14,7 @@ use Rattle.std.specs.Borrow.{Bor}
 use Rattle.deny_toml_grammar.specs.declared.read_error.ReadError.{ReadError}
 use Rattle.deny_toml_grammar.specs.private.Reading.{◌>>=◌, read_map}
 
--- the character that a letter stands for after a backslash
+-- the character that a letter writes after a backslash
 abbrev pub letter_escape : ℕ → Option ℕ
 letter_escape c =
     if c == 0x62 then Some 0x08
@@ -25,19 +25,19 @@ letter_escape c =
     else if c == quote || c == backslash then Some c
     else None
 
--- how many hex digits follow `u` and `U`
+-- the number of hex digits after `u` and `U`
 abbrev pub hex_len : ℕ → ℕ
 hex_len c = if c == 0x75 then 4 else if c == 0x55 then 8 else 0
 
--- a Unicode scalar value
+-- whether a number is a Unicode scalar value
 abbrev pub is_scalar : ℕ → Bool
 is_scalar c = nat_lt c 0xD800 || (nat_le 0xE000 c && nat_le c 0x10_FFFF)
 
--- hex digits that write a character
+-- whether hex digits write a character
 abbrev pub writes_scalar : List ℕ → Bool
 writes_scalar digits = list_all (λ c. is_digit c 16) digits && is_scalar (digits_value 16 digits)
 
--- n hex digits that write a character
+-- the character that n hex digits write
 unfoldable pub hex_escape : ℕ → List ℕ → Read ℕ
 hex_escape n text =
     let digits = take n text in
@@ -49,14 +49,14 @@ escape_char text =
     if nat_lt 0 (hex_len (first text)) then hex_escape (hex_len (first text)) (drop 1 text)
     else option_map (λ c. (c, drop 1 text)) (letter_escape (first text))
 
--- What follows a backslash. At the end of a line of a string on several lines it cuts all white space up to the next
--- text.
+-- the bytes of an escape, after its backslash; at the end of a line of a multi-line string it removes all white space
+-- up to the next text
 unfoldable pub escape : Bool → List ℕ → Read (List ℕ)
 escape multi text =
     if multi && starts_newline (skip_spaces text) then Some ([], skip_lines text)
     else read_map encode_utf8 (escape_char text)
 
--- At a delimiter of a string on several lines: three end it, and one or two are text, also before the last three.
+-- the bytes of a delimiter in a multi-line string: three end it, and one or two are text, also before the last three
 abbrev pub at_delimiters : ℕ → List ℕ → Read (Option (List ℕ))
 at_delimiters delimiter text =
     let count = prefix_len (λ c. c == delimiter) text in
@@ -64,7 +64,7 @@ at_delimiters delimiter text =
     else if nat_lt count 6 then Some (Some (delimiter ∷ []), drop 1 text)
     else None
 
--- the bytes that a byte which is not plain stands for, or `None` for the end of the string
+-- the bytes that a byte which is not plain writes, or `None` at the end of the string
 unfoldable pub special : ℕ → Bool → List ℕ → Read (Option (List ℕ))
 special delimiter multi text =
     if first text == delimiter then (if multi then at_delimiters delimiter text else Some (None, drop 1 text))
@@ -72,11 +72,11 @@ special delimiter multi text =
     else if multi && starts_newline text then Some (Some (first text ∷ []), drop 1 text)
     else None
 
--- these bytes before what was read
+-- the bytes of xs before those that were read
 abbrev pub prepend : List ℕ → Read (List ℕ) → Read (List ℕ)
 prepend prefix r = option_map (λ p. (prefix ++ p.0, p.1)) r
 
--- goes on after a piece, or ends
+-- the content after a piece, or its end
 abbrev pub after_piece : (List ℕ → Read (List ℕ)) → Option (List ℕ) → List ℕ → Read (List ℕ)
 after_piece more None rest = Some ([], rest)
 after_piece more (Some bytes) rest = prepend bytes (more rest)
@@ -88,12 +88,12 @@ content delimiter multi (suc n) text =
     if is_plain delimiter multi (first text) then prepend (first text ∷ []) (content delimiter multi n (drop 1 text))
     else special delimiter multi text >>= (λ p. after_piece (content delimiter multi n) p.0 p.1)
 
--- a line end right after the opening delimiters is left out
+-- the text without a line end at its start, as after the opening delimiters
 abbrev pub trim_newline : List ℕ → List ℕ
 trim_newline text =
     if first text == line_feed then drop 1 text else if starts_newline text then drop 2 text else text
 
--- what was read of a string whose content begins with `from` in a text of `total` bytes, and ends so many delimiters
+-- the string that was read, whose content begins with `from` in a text of `total` bytes and ends this many delimiters
 -- before the rest
 abbrev pub spanned : ℕ → List ℕ → ℕ → (List ℕ × List ℕ) → Spanned (List ℕ) × List ℕ
 spanned total from closing p = (
@@ -105,21 +105,21 @@ spanned total from closing p = (
   p.1,
 )
 
--- a string on one line, at its delimiter
+-- a one-line string, from its delimiter on
 unfoldable pub one_line : ℕ → List ℕ → Read (Spanned (List ℕ))
 one_line total text = option_map (spanned total (drop 1 text) 1)
     (content (first text) false (length text) (drop 1 text))
 
--- a string on several lines, at its delimiters
+-- a multi-line string, from its delimiters on
 unfoldable pub multi_line : ℕ → List ℕ → Read (Spanned (List ℕ))
 multi_line total text = option_map (spanned total (drop 3 text) 3)
     (content (first text) true (length text) (trim_newline (drop 3 text)))
 
--- a string of one of the two kinds, where it was read
+-- a string of one of the two kinds, with its span
 abbrev pub string_of : (List ℕ → Scalar) → Spanned (List ℕ) → Spanned Scalar
 string_of kind s = record { value = kind s.value; span = s.span }
 
--- a string, at its delimiter
+-- a string, from its delimiter on
 unfoldable pub quoted : ℕ → List ℕ → Read (Spanned Scalar)
 quoted total text =
     if slice_index text 1 == first text && slice_index text 2 == first text then read_map (string_of Multiline)

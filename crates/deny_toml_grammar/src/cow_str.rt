@@ -4,13 +4,13 @@ ghost use Rattle.std.specs.Cmp.Lexicographic.{slice_cmp, pointwise, nat_list_cmp
 ghost use Rattle.std.specs.Cmp.Lexicographic.{nat_list_eq_equiv, texts_po, texts_ties};
 ghost use Rattle.std.specs.Ordering.{nat_cmp};
 
-use deny_lists::{NoMemory, Text};
+use deny_base_lists::{NoMemory, Text};
 use std::alloc::Global;
 use std::borrow;
 use std::cmp::Ordering;
 use std::marker::Model;
 
-/// A text that is borrowed from the input where it stands there as it is, and else owned.
+/// A text that is borrowed from the input where it occurs there unchanged, and else owned.
 ///
 /// Contracts see its bytes, so that a borrowed and an owned text with the same bytes are equal.
 #[derive(Drop)]
@@ -31,7 +31,7 @@ impl<'t> Model for CowStr<'t> {
 }
 
 impl<'t> CowStr<'t> {
-    /// A text that stands in the input as it is.
+    /// A text that is borrowed from the input.
     pub fn borrowed(text: &'t str) -> CowStr<'t>
         ensures { result ≡ text.now }
     {
@@ -40,7 +40,7 @@ impl<'t> CowStr<'t> {
         }
     }
 
-    /// A text of its own.
+    /// An owned text.
     pub fn owned(text: String) -> CowStr<'t>
         ensures { result ≡ string_bytes text }
     {
@@ -56,7 +56,7 @@ impl<'t> CowStr<'t> {
         self.text.as_str()
     }
 
-    /// The text as one of its own: it is copied where it was borrowed.
+    /// The text as an owned one: it is copied where it was borrowed.
     pub fn into_text(self, alloc: Global) -> Result<Text, NoMemory>
         ensures { IfOk result (λ text. text ≡ self.entry) }
     {

@@ -1,8 +1,8 @@
 use crate::parts::{Key, Scalar};
 use deny_base::Span;
-use deny_lists::List;
+use deny_base_lists::List;
 
-/// A value as it is written: the dotted keys of its inline tables stand as they are.
+/// A value as it is written: the dotted keys of its inline tables are kept as they are.
 #[cycle(written)]
 #[derive(Drop)]
 pub struct Written<'t> {
@@ -10,7 +10,7 @@ pub struct Written<'t> {
     pub content: WrittenContent<'t>,
 }
 
-/// What is written.
+/// The content of a written value.
 #[cycle(written)]
 #[derive(Drop)]
 pub enum WrittenContent<'t> {
@@ -19,7 +19,7 @@ pub enum WrittenContent<'t> {
     InlineTable(List<Assignment<'t>>),
 }
 
-/// A dotted key and what is assigned to it. The path has at least one part.
+/// A dotted key and the value that is assigned to it. The path has at least one part.
 #[cycle(written)]
 #[derive(Drop)]
 pub struct Assignment<'t> {
@@ -34,9 +34,9 @@ pub struct Header<'t> {
     pub is_array: bool,
 }
 
-/// A line of a document that is not blank.
+/// A line of a document that is not blank: a header or an assignment.
 #[derive(Drop)]
-pub enum Expression<'t> {
+pub enum TomlExpression<'t> {
     Header(Header<'t>),
     Assignment(Assignment<'t>),
 }

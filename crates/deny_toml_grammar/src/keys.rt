@@ -7,14 +7,14 @@ ghost use Rattle.deny_toml_grammar.specs.Strings as strings;
 ghost use Rattle.deny_toml_grammar.specs.private.Strings as own;
 
 use crate::cow_str::CowStr;
-use crate::lexical::{Class, between, first, is_bare, skip, skip_spaces, split_run};
+use crate::lexical::{ByteClass, between, first, is_bare, skip, skip_spaces, split_run};
 use crate::parts::Key;
 use crate::read_error::ReadError;
 use crate::strings::{one_line, starts_string};
-use deny_lists::List;
+use deny_base_lists::List;
 use std::alloc::Global;
 
-/// The most parts of a key, and the most arrays and inline tables in one another.
+/// The largest number of parts of a key, and of arrays and inline tables nested in one another.
 pub(crate) const DEPTH_LIMIT: usize = 64;
 
 /// A key of a text of `total` bytes, and the spaces after it.
@@ -88,7 +88,7 @@ fn bare_key<'t>(total: usize, text: &'t str) -> (Key<'t>, &'t str)
     ensures value { (result.0, result.1.now) ≡ spec.bare_key total text.now }
     ensures shorter { length result.1.now < length text.now }
 {
-    let (name, rest) = split_run(text, Class::Bare);
+    let (name, rest) = split_run(text, ByteClass::Bare);
     let key = Key {
         name: CowStr::borrowed(name),
         span: between(total, text, rest),

@@ -22,7 +22,7 @@ pub(crate) fn first(text: &str) -> u8
     byte_at(text.as_bytes(), 0)
 }
 
-/// What follows the first `count` bytes, of which the last is ASCII.
+/// The text after the first `count` bytes, of which the last is ASCII.
 #[inline]
 pub(crate) fn skip(text: &str, count: usize) -> &str
     requires some { 0 < count }
@@ -34,7 +34,7 @@ pub(crate) fn skip(text: &str, count: usize) -> &str
     &text[count..]
 }
 
-/// The offset at which `rest` begins in a text of so many bytes that ends with it.
+/// The offset at which `rest` begins in a text of `total` bytes that ends with it.
 #[inline]
 pub(crate) fn offset(total: usize, rest: &str) -> u32
     requires within { length rest.now ≤ total }
@@ -44,7 +44,7 @@ pub(crate) fn offset(total: usize, rest: &str) -> u32
     (total - rest.len()) as u32
 }
 
-/// The range from the offset at which `from` begins to the one at which `rest` begins.
+/// The span from the offset at which `from` begins to the one at which `rest` begins.
 #[inline]
 pub(crate) fn between(total: usize, from: &str, rest: &str) -> Span
     requires within { length from.now ≤ total }
@@ -58,7 +58,7 @@ pub(crate) fn between(total: usize, from: &str, rest: &str) -> Span
     }
 }
 
-/// Whether a line feed comes next, alone or after a carriage return.
+/// Whether the text begins with a line feed, alone or after a carriage return.
 #[inline]
 pub(crate) fn starts_newline(text: &str) -> bool
     ensures { result ≡ spec.starts_newline text.now }
@@ -66,17 +66,17 @@ pub(crate) fn starts_newline(text: &str) -> bool
     first(text) == b'\n' || (first(text) == b'\r' && byte_at(text.as_bytes(), 1) == b'\n')
 }
 
-/// After spaces and tabs.
+/// The text after spaces and tabs.
 #[inline]
 #[tactic(auto, unfolding(crate::specs::Lexical::skip_spaces))]
 pub(crate) fn skip_spaces(text: &str) -> &str
     ensures rest { result.now ≡ spec.skip_spaces text.now }
     ensures within { length result.now ≤ length text.now }
 {
-    split_run(text, Class::Space).1
+    split_run(text, ByteClass::Space).1
 }
 
-/// After spaces, tabs and line ends, and after comments if they are allowed.
+/// The text after spaces, tabs and line ends, and after comments where they are allowed.
 pub(crate) fn skip_blank(text: &str, comments: bool) -> &str
     ensures rest { result.now ≡ spec.skip_from comments false text.now }
     ensures within { length result.now ≤ length text.now }
@@ -122,7 +122,7 @@ fn is_comment_byte(byte: u8) -> bool
     byte == b'\t' || (byte >= 0x20 && byte != 0x7F)
 }
 
-/// A byte of a key without quotes.
+/// A byte of a bare key.
 #[inline]
 pub(crate) fn is_bare(byte: u8) -> bool
     ensures { result ≡ spec.is_bare byte }
@@ -130,33 +130,33 @@ pub(crate) fn is_bare(byte: u8) -> bool
     byte.is_ascii_alphanumeric() || byte == b'-' || byte == b'_'
 }
 
-/// A set of bytes, to find a run of them.
+/// A class of bytes, to find a run of them.
 #[derive(Clone, Copy)]
-pub(crate) enum Class {
+pub(crate) enum ByteClass {
     Space,
     Bare,
     /// The bytes of booleans, numbers and dates.
-    Word,
+    Token,
     Digit,
     /// The digits of a number and the underscores between them.
     Grouped,
     Byte(u8),
-    /// The bytes that stand for themselves in a string with this delimiter, on one line or several.
+    /// The bytes that write themselves in a string with this delimiter, on one line or several.
     Plain(u8, bool),
 }
 
 #[inline(always)]
-fn is_in(class: Class, byte: u8) -> bool
+fn is_in(class: ByteClass, byte: u8) -> bool
     ensures { result ≡ own.class_test class byte }
 {
     match class {
-        Class::Space => is_space(byte),
-        Class::Bare => is_bare(byte),
-        Class::Word => is_bare(byte) || byte == b'+' || byte == b'.' || byte == b':',
-        Class::Digit => byte.is_ascii_digit(),
-        Class::Grouped => byte.is_ascii_digit() || byte == b'_',
-        Class::Byte(wanted) => byte == wanted,
-        Class::Plain(delimiter, multi) => {
+        ByteClass::Space => is_space(byte),
+        ByteClass::Bare => is_bare(byte),
+        ByteClass::Token => is_bare(byte) || byte == b'+' || byte == b'.' || byte == b':',
+        ByteClass::Digit => byte.is_ascii_digit(),
+        ByteClass::Grouped => byte.is_ascii_digit() || byte == b'_',
+        ByteClass::Byte(wanted) => byte == wanted,
+        ByteClass::Plain(delimiter, multi) => {
             byte != delimiter
                 && !(byte == b'\\' && delimiter == b'"')
                 && (is_comment_byte(byte) || (multi && byte == b'\n'))
@@ -164,18 +164,18 @@ fn is_in(class: Class, byte: u8) -> bool
     }
 }
 
-/// How many bytes at the start are of the class.
+/// The number of bytes of the class at the start.
 #[inline(always)]
-pub(crate) fn run_len(bytes: &[u8], class: Class) -> usize
+pub(crate) fn run_len(bytes: &[u8], class: ByteClass) -> usize
     ensures len { result ≡ prefix_len (own.class_test class) bytes.now }
     ensures within { result ≤ length bytes.now }
 {
     bytes.iter().take_while(|byte| is_in(class, **byte)).count()
 }
 
-/// The run of the class at the start, and what follows it.
+/// The run of the class at the start, and the text after it.
 #[inline(always)]
-pub(crate) fn split_run(text: &str, class: Class) -> (&str, &str)
+pub(crate) fn split_run(text: &str, class: ByteClass) -> (&str, &str)
     requires { own.EndsAtBoundary class }
     ensures parts { (result.0.now, result.1.now) ≡ spec.split_while (own.class_test class) text.now }
     ensures lens { length result.0.now + length result.1.now ≡ length text.now }

@@ -1,5 +1,4 @@
-//! The grammar of TOML 1.0.0: from a text to the headers and assignments that it writes, with the
-//! span of every key and value.
+//! The grammar of TOML 1.0.0: from a text to its headers and assignments, with the span of every key and value.
 #![tactic(auto)]
 
 mod cow_str;
@@ -13,11 +12,11 @@ mod numbers;
 mod parts;
 mod read_error;
 mod strings;
+mod unquoted;
 mod values;
-mod words;
 
 pub use cow_str::CowStr;
 pub use document::read_document;
-pub use expression::{Assignment, Expression, Header, Written, WrittenContent};
+pub use expression::{Assignment, Header, TomlExpression, Written, WrittenContent};
 pub use parts::{Key, Scalar};
 pub use read_error::ReadError;

@@ -1,15 +1,15 @@
 //! Headers, lines and the whole text.
-ghost use Rattle.std.specs.Prelude.{◌≡◌, ◌^◌, ◌<◌, ◌≤◌, length, IfOk};
+ghost use Rattle.std.specs.Prelude.{◌≡◌, ◌^◌, ◌<◌, ◌≤◌, length};
 ghost use Rattle.deny_toml_grammar.specs.private.Reading.{GivesAs, Reads, Shortens};
 ghost use Rattle.deny_toml_grammar.specs.private.Lines as spec;
 
-use crate::expression::{Expression, Header};
+use crate::expression::{Header, TomlExpression};
 use crate::keys::{DEPTH_LIMIT, key};
 use crate::lexical::{first, skip, skip_blank, skip_spaces};
 use crate::parts::Key;
 use crate::read_error::ReadError;
 use crate::values::assignment;
-use deny_lists::List;
+use deny_base_lists::List;
 use std::alloc::Global;
 
 /// The headers and assignments of a text, in its order.
@@ -17,7 +17,7 @@ use std::alloc::Global;
 pub(crate) fn expressions<'t>(
     alloc: Global,
     text: &'t str,
-) -> Result<List<Expression<'t>>, ReadError>
+) -> Result<List<TomlExpression<'t>>, ReadError>
     requires small { length text.now < 2 ^ 28 }
     ensures { GivesAs (λ es. es) result (spec.expressions text.now) }
 {
@@ -35,13 +35,13 @@ pub(crate) fn expressions<'t>(
     }
 }
 
-/// An expression that has its line to itself.
+/// An expression with nothing after it on its line but blanks and a comment.
 #[tactic(auto, unfolding(crate::specs::private::Lines::line))]
 fn line<'t>(
     alloc: Global,
     total: usize,
     text: &'t str,
-) -> Result<(Expression<'t>, &'t str), ReadError>
+) -> Result<(TomlExpression<'t>, &'t str), ReadError>
     requires within { length text.now ≤ total }
     requires small { total < 2 ^ 28 }
     ensures value { Reads result (spec.line total text.now) }
@@ -68,7 +68,7 @@ fn expression_at<'t>(
     alloc: Global,
     total: usize,
     text: &'t str,
-) -> Result<(Expression<'t>, &'t str), ReadError>
+) -> Result<(TomlExpression<'t>, &'t str), ReadError>
     requires within { length text.now ≤ total }
     requires small { total < 2 ^ 28 }
     ensures value { Reads result (spec.expression_at total text.now) }
@@ -76,10 +76,10 @@ fn expression_at<'t>(
 {
     if first(text) == b'[' {
         let (header, rest) = header(alloc, total, skip(text, 1))?;
-        Ok((Expression::Header(header), rest))
+        Ok((TomlExpression::Header(header), rest))
     } else {
         let (assignment, rest) = assignment(alloc, total, text, DEPTH_LIMIT)?;
-        Ok((Expression::Assignment(assignment), rest))
+        Ok((TomlExpression::Assignment(assignment), rest))
     }
 }
 

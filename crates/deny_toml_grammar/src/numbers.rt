@@ -1,30 +1,29 @@
-//! Integers and floats, as words.
-ghost use Rattle.std.specs.Prelude.{◌≡◌, ◌^◌, ◌≤◌, ◌<◌, IfSome, true};
-ghost use Rattle.std.specs.Char.{is_digit, is_ascii_digit};
+//! Integers and floats.
+ghost use Rattle.std.specs.Prelude.{◌≡◌, ◌≤◌, ◌<◌, true};
+ghost use Rattle.std.specs.Char.{is_digit};
 ghost use Rattle.deny_toml_grammar.specs.Numbers as spec;
-ghost use Rattle.deny_toml_grammar.specs.Lexical.{split_while, is_grouped};
 
-use crate::lexical::{Class, byte_at, run_len};
+use crate::lexical::{ByteClass, byte_at, run_len};
 
-/// The integer that the word writes in one of the four bases, if it fits an `i64`.
+/// The integer that the token writes in one of the four bases, if it fits an `i64`.
 #[tactic(auto, unfolding(crate::specs::Numbers::integer))]
-pub(crate) fn integer(word: &[u8]) -> Option<i64>
-    ensures { result ≡ spec.integer word.now }
+pub(crate) fn integer(token: &[u8]) -> Option<i64>
+    ensures { result ≡ spec.integer token.now }
 {
-    let radix = radix_of(word);
+    let radix = radix_of(token);
     if radix != 10 {
-        return prefixed_integer(&word[2..], radix);
+        return prefixed_integer(&token[2..], radix);
     }
-    decimal_integer(without_sign(word), byte_at(word, 0) == b'-')
+    decimal_integer(without_sign(token), byte_at(token, 0) == b'-')
 }
 
-fn radix_of(word: &[u8]) -> u32
-    ensures { result ≡ spec.radix_of word.now }
+fn radix_of(token: &[u8]) -> u32
+    ensures { result ≡ spec.radix_of token.now }
 {
-    if byte_at(word, 0) != b'0' {
+    if byte_at(token, 0) != b'0' {
         return 10;
     }
-    match byte_at(word, 1) {
+    match byte_at(token, 1) {
         b'x' => 16,
         b'o' => 8,
         b'b' => 2,
@@ -32,13 +31,13 @@ fn radix_of(word: &[u8]) -> u32
     }
 }
 
-fn without_sign(word: &[u8]) -> &[u8]
-    ensures { result.now ≡ spec.without_sign word.now }
+fn without_sign(token: &[u8]) -> &[u8]
+    ensures { result.now ≡ spec.without_sign token.now }
 {
-    if byte_at(word, 0) == b'+' || byte_at(word, 0) == b'-' {
-        &word[1..]
+    if byte_at(token, 0) == b'+' || byte_at(token, 0) == b'-' {
+        &token[1..]
     } else {
-        word
+        token
     }
 }
 
@@ -102,7 +101,7 @@ fn are_digits(digits: &[u8], radix: u32) -> bool
     after_digit
 }
 
-/// The number that the digits write, if it is at most 2^63. Underscores are passed over.
+/// The number that the digits write, if it is at most 2^63. Underscores are skipped.
 fn digits_value(digits: &[u8], radix: u32) -> Option<u64>
     requires low { 2 ≤ radix }
     requires high { radix ≤ 16 }
@@ -133,49 +132,49 @@ fn next_value(value: u64, byte: u8, radix: u32) -> Option<u64>
     }
 }
 
-/// Whether the word is a float.
-pub(crate) fn is_float(word: &[u8]) -> bool
-    ensures { result ≡ spec.is_float word.now }
+/// Whether the token is a float.
+pub(crate) fn is_float(token: &[u8]) -> bool
+    ensures { result ≡ spec.is_float token.now }
 {
-    is_unsigned_float(without_sign(word))
+    is_unsigned_float(without_sign(token))
 }
 
 #[tactic(auto, unfolding(crate::specs::Numbers::is_unsigned_float))]
-fn is_unsigned_float(word: &[u8]) -> bool
-    ensures { result ≡ spec.is_unsigned_float word.now }
+fn is_unsigned_float(token: &[u8]) -> bool
+    ensures { result ≡ spec.is_unsigned_float token.now }
 {
-    if word == b"inf".as_slice() || word == b"nan".as_slice() {
+    if token == b"inf".as_slice() || token == b"nan".as_slice() {
         return true;
     }
-    let (digits, rest) = word.split_at(run_len(word, Class::Grouped));
+    let (digits, rest) = token.split_at(run_len(token, ByteClass::Grouped));
     is_decimal(digits) && (is_fraction(rest) || is_exponent(rest))
 }
 
-fn is_fraction(word: &[u8]) -> bool
-    ensures { result ≡ spec.is_fraction word.now }
+fn is_fraction(token: &[u8]) -> bool
+    ensures { result ≡ spec.is_fraction token.now }
 {
-    byte_at(word, 0) == b'.' && are_decimals(&word[1..])
+    byte_at(token, 0) == b'.' && are_decimals(&token[1..])
 }
 
-fn are_decimals(word: &[u8]) -> bool
-    ensures { result ≡ spec.are_decimals word.now }
+fn are_decimals(token: &[u8]) -> bool
+    ensures { result ≡ spec.are_decimals token.now }
 {
-    let (digits, rest) = word.split_at(run_len(word, Class::Grouped));
+    let (digits, rest) = token.split_at(run_len(token, ByteClass::Grouped));
     are_digits(digits, 10) && is_exponent_or_end(rest)
 }
 
-fn is_exponent_or_end(word: &[u8]) -> bool
-    ensures { result ≡ spec.is_exponent_or_end word.now }
+fn is_exponent_or_end(token: &[u8]) -> bool
+    ensures { result ≡ spec.is_exponent_or_end token.now }
 {
-    word.is_empty() || is_exponent(word)
+    token.is_empty() || is_exponent(token)
 }
 
-fn is_exponent(word: &[u8]) -> bool
-    ensures { result ≡ spec.is_exponent word.now }
+fn is_exponent(token: &[u8]) -> bool
+    ensures { result ≡ spec.is_exponent token.now }
 {
-    let letter = byte_at(word, 0);
+    let letter = byte_at(token, 0);
     if letter != b'e' && letter != b'E' {
         return false;
     }
-    are_digits(without_sign(&word[1..]), 10)
+    are_digits(without_sign(&token[1..]), 10)
 }

@@ -1,4 +1,4 @@
-//! What expressions and trees are made of.
+//! The parts that expressions and trees have in common.
 use crate::cow_str::CowStr;
 use deny_base::Span;
 
@@ -6,16 +6,16 @@ use deny_base::Span;
 #[derive(Drop)]
 pub struct Key<'t> {
     pub name: CowStr<'t>,
-    /// The part as it stands, without quotes.
+    /// The span of the part, without quotes.
     pub span: Span,
 }
 
-/// A value that contains no others.
+/// A value that contains no other values.
 #[derive(Drop)]
 pub enum Scalar<'t> {
     /// A string on one line.
     Text(CowStr<'t>),
-    /// A string between three delimiters, which may go on over several lines.
+    /// A string between three delimiters, which may span several lines.
     Multiline(CowStr<'t>),
     Integer(i64),
     /// A float, as it is written.

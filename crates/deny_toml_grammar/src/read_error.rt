@@ -1,11 +1,11 @@
-use deny_lists::NoMemory;
+use deny_base_lists::NoMemory;
 use std::alloc::{AllocError, AllocFailed};
 use thiserror::Error;
 
 /// Why a text was not read.
 #[derive(Debug, Drop, Error)]
 pub enum ReadError {
-    /// The text does not go on as the grammar says; so many bytes are left from the offset on.
+    /// The text leaves the grammar where this many bytes are left.
     #[error("the text leaves the grammar of TOML {0} bytes before its end")]
     Grammar(usize),
     #[error("the memory did not suffice")]

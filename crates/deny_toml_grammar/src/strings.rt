@@ -1,16 +1,13 @@
 //! Strings of all four kinds.
 ghost use Rattle.std.specs.Prelude.{◌≡◌, ℕ, ◌+◌, ◌^◌, ◌<◌, ◌≤◌, true, false, if◌then◌else◌, length};
-ghost use Rattle.std.specs.Prelude.{slice_index, string_bytes, option_map, IfOk, IfSome, Some, None};
-ghost use Rattle.std.specs.List.{list_all};
-ghost use Rattle.std.specs.Char.{is_digit};
-ghost use Rattle.std.specs.Str.Parse.{digits_value};
+ghost use Rattle.std.specs.Prelude.{slice_index, option_map, IfOk, IfSome, Some, None};
 ghost use Rattle.deny_toml_grammar.specs.Strings as spec;
 ghost use Rattle.deny_toml_grammar.specs.private.Strings as own;
 ghost use Rattle.deny_toml_grammar.specs.private.Reading.{Reads, Shortens, ReadsPiece, read_map};
 
 use crate::cow_str::CowStr;
 use crate::lexical::{
-    Class, byte_at, first, offset, run_len, skip, skip_blank, skip_spaces, split_run,
+    ByteClass, byte_at, first, offset, run_len, skip, skip_blank, skip_spaces, split_run,
     starts_newline,
 };
 use crate::parts::Scalar;
@@ -18,7 +15,7 @@ use crate::read_error::ReadError;
 use deny_base::{Span, Spanned};
 use std::alloc::Global;
 
-/// Whether a quote or an apostrophe comes next.
+/// Whether the text begins with a quote or an apostrophe.
 #[inline]
 pub(crate) fn starts_string(text: &str) -> bool
     ensures { result ≡ own.starts_string text.now }
@@ -26,7 +23,7 @@ pub(crate) fn starts_string(text: &str) -> bool
     first(text) == b'"' || first(text) == b'\''
 }
 
-/// A string of any kind, at its delimiter, with the range between its delimiters in a text of
+/// A string of any kind, from its delimiter on, with the span between its delimiters in a text of
 /// `total` bytes.
 #[tactic(auto, unfolding(crate::specs::Strings::quoted))]
 pub(crate) fn quoted<'t>(
@@ -110,7 +107,7 @@ fn trim_newline(text: &str) -> &str
     }
 }
 
-/// What a string holds, which is borrowed where each byte stands for itself.
+/// The content of a string, which is borrowed where each byte writes itself.
 fn content<'t>(
     alloc: Global,
     text: &'t str,
@@ -122,7 +119,7 @@ fn content<'t>(
     ensures value { (n : ℕ) → length text.now < n → Reads result (spec.content delimiter multi n text.now) }
     ensures shorter { spec.Closes multi text.now result }
 {
-    let (plain, after) = split_run(text, Class::Plain(delimiter, multi));
+    let (plain, after) = split_run(text, ByteClass::Plain(delimiter, multi));
     if let Some(rest) = closing(after, delimiter, multi) {
         return Ok((CowStr::borrowed(plain), rest));
     }
@@ -130,7 +127,7 @@ fn content<'t>(
     Ok((CowStr::owned(bytes), rest))
 }
 
-/// What follows the closing delimiters, where they come next.
+/// The text after the closing delimiters, where it begins with them.
 #[tactic(auto, unfolding(crate::specs::Strings::special))]
 fn closing(text: &str, delimiter: u8, multi: bool) -> Option<&str>
     requires some { 0 < delimiter }
@@ -144,7 +141,7 @@ fn closing(text: &str, delimiter: u8, multi: bool) -> Option<&str>
     if !multi {
         return Some(skip(text, 1));
     }
-    if run_len(text.as_bytes(), Class::Byte(delimiter)) == 3 {
+    if run_len(text.as_bytes(), ByteClass::Byte(delimiter)) == 3 {
         Some(skip(text, 3))
     } else {
         None
@@ -165,7 +162,7 @@ fn owned_content(
     let mut bytes = String::new(alloc);
     let mut rest = text;
     'pieces: loop {
-        let (plain, after) = split_run(rest, Class::Plain(delimiter, multi));
+        let (plain, after) = split_run(rest, ByteClass::Plain(delimiter, multi));
         bytes.push_str(plain)?;
         let (goes_on, next) = special(&mut bytes, after, delimiter, multi)?;
         if !goes_on {
@@ -175,7 +172,7 @@ fn owned_content(
     }
 }
 
-/// Puts what a byte that is not plain stands for at the end. The flag is false at the end of the
+/// Appends the bytes that a byte which is not plain writes. The flag is false at the end of the
 /// string.
 fn special<'t>(
     bytes: &mut String,
@@ -218,7 +215,7 @@ fn at_delimiters<'t>(
     ensures shorter { Shortens text.now result }
     ensures closes { IfOk result (λ p. p.0 ≡ false → length p.1.now + 3 ≤ length text.now) }
 {
-    let count = run_len(text.as_bytes(), Class::Byte(delimiter));
+    let count = run_len(text.as_bytes(), ByteClass::Byte(delimiter));
     if count == 3 {
         Ok((false, skip(text, 3)))
     } else if count < 6 {

@@ -8,8 +8,8 @@ use crate::keys::key;
 use crate::lexical::{between, first, skip, skip_blank, skip_spaces};
 use crate::read_error::ReadError;
 use crate::strings::{quoted, starts_string};
-use crate::words::unquoted;
-use deny_lists::List;
+use crate::unquoted::unquoted;
+use deny_base_lists::List;
 use std::alloc::Global;
 
 /// A value with arrays and inline tables at most `depth` deep.
@@ -47,7 +47,7 @@ pub(crate) fn value<'t>(
     }
 }
 
-/// What stands from `text` to the rest.
+/// The written value that reaches from `text` to `rest`.
 fn whole<'t>(total: usize, text: &str, rest: &str, content: WrittenContent<'t>) -> Written<'t>
     requires within { length text.now ≤ total }
     requires shorter { length rest.now ≤ length text.now }
@@ -82,12 +82,15 @@ fn scalar<'t>(
             rest,
         ))
     } else {
-        let (word, rest) = unquoted(text)?;
-        Ok((whole(total, text, rest, WrittenContent::Scalar(word)), rest))
+        let (token, rest) = unquoted(text)?;
+        Ok((
+            whole(total, text, rest, WrittenContent::Scalar(token)),
+            rest,
+        ))
     }
 }
 
-/// The elements of an array after its bracket, and the closing one.
+/// The elements of an array, from after its opening bracket to its closing one.
 #[cycle(reading)]
 fn array<'t>(
     alloc: Global,
@@ -114,7 +117,7 @@ fn array<'t>(
     }
 }
 
-/// After a comma, or at the closing bracket.
+/// The text after a comma, or from the closing bracket on.
 #[tactic(auto, unfolding(crate::specs::private::Values::after_element))]
 fn after_element(text: &str) -> Result<&str, ReadError>
     ensures value { spec.GivesRest result (spec.after_element text.now) }
@@ -130,7 +133,7 @@ fn after_element(text: &str) -> Result<&str, ReadError>
     }
 }
 
-/// The keys and values of an inline table after its brace, and the closing one.
+/// The keys and values of an inline table, from after its opening brace to its closing one.
 #[cycle(reading)]
 fn inline_table<'t>(
     alloc: Global,

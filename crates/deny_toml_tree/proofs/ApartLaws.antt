@@ -1,4 +1,4 @@
--- Where the scalars of a value begin, layer by layer, and how often an offset is among them.
+-- The offsets at which the scalars of a value begin, layer by layer, and how often an offset is among them.
 use Rattle.std.proofs.Common.{◌≡◌, ◌≢◌, ℕ, ◌+◌, ◌≤◌, true, cond, ◌==◌, List, [], ◌∷◌, ◌++◌, refl, sym, ap, ◌∙◌, inl}
 use Rattle.std.proofs.Common.{inr, arith, rules}
 use Rattle.std.proofs.lemmas.Bool.{cases_Bool}
@@ -24,7 +24,7 @@ use Rattle.deny_toml_tree.specs.Calls.{Layer, layer_in}
 use Rattle.deny_toml_tree.specs.Apart.{content_starts, table_starts, value_starts, starts_in}
 use Rattle.deny_toml_tree.proofs.TreeOrderLaws.{layer_is}
 
--- how often an offset is in a list
+-- the number of times that an offset is in a list
 abbrev pub times : ℕ → List ℕ → ℕ
 times x [] = 0
 times x (y ∷ ys) = cond (y == x) 1 0 + times x ys
@@ -42,7 +42,7 @@ absent x (y ∷ ys) none =
           (absent x ys (omega (arith, ap (λ b. cond b 1 0 + times x ys) other)))
     ]
 
--- what is nowhere twice
+-- offsets that are in a list once at most are pairwise different
 pub apart_from_times : (xs : List ℕ) → ((x : ℕ) → times x xs ≤ 1) → AllPairs (λ one other. one ≢ other) xs
 apart_from_times [] once = λ i j d below within. absurd (omega arith)
 apart_from_times (x ∷ xs) once =

@@ -1,12 +1,10 @@
--- What follows for the parts of a value where no two of its scalars begin at one offset.
-use Rattle.std.proofs.Common.{◌≡◌, ◌≢◌, ℕ, zero, suc, ◌+◌, ◌<◌, ◌≤◌, true, false, cond, ◌==◌, List, [], ◌∷◌, ◌++◌}
+-- Parts of a value in which no two scalars begin at one offset.
+use Rattle.std.proofs.Common.{◌≡◌, ◌≢◌, ℕ, suc, ◌+◌, ◌<◌, ◌≤◌, true, false, cond, ◌==◌, List, [], ◌∷◌, ◌++◌}
 use Rattle.std.proofs.Common.{length, get_or, Option, Some, None, option_and_then, refl, sym, ap, ◌∙◌, inl, inr, arith}
 use Rattle.std.proofs.lemmas.Option.{none-some, same_Some}
 use Rattle.std.proofs.lemmas.Bool.{cases_Bool}
 use Rattle.std.proofs.lemmas.Bool.Decides.{nat_tests}
-use Rattle.std.proofs.lemmas.List.Elements.{All-nil, All-cons}
-use Rattle.std.proofs.lemmas.List.Kept.{AllPairs-cons}
-use Rattle.std.specs.Prelude.{All, AllPairs, Contains, nat_eq}
+use Rattle.std.specs.Prelude.{AllPairs, nat_eq}
 use Rattle.std.specs.List.{AllByRecursion, IsDistinct, flat_map}
 use Rattle.std.specs.Cmp.Lexicographic.{pointwise, same_text, other_text}
 use Rattle.deny_toml_grammar.specs.declared.parts.Key.{Key}
@@ -17,17 +15,17 @@ use Rattle.deny_toml_tree.specs.Value.{span_in, entries_in}
 use Rattle.deny_toml_tree.specs.Calls.{Layer, layer_in, table_of, array_of, scalar_of, text_of, table_in, array_in}
 use Rattle.deny_toml_tree.specs.Calls.{text_in}
 use Rattle.deny_toml_tree.specs.Calls.{has_name, value_at}
-use Rattle.deny_toml_tree.specs.Apart.{starts_in, AreApart}
+use Rattle.deny_toml_tree.specs.Apart.{starts_in}
 use Rattle.deny_toml_tree.proofs.ApartLaws.{times, times-append, apart_from_times, starts_of_entries, starts_of_layer}
 use Rattle.deny_toml_tree.proofs.ApartLaws.{starts_by_layer}
 
--- ---- lists in which no offset is twice
+-- ---- lists of different offsets
 
--- No two of the offsets are one.
+-- the offsets are pairwise different
 abbrev pub AreDistinct : List ℕ → Type 0
 AreDistinct xs = AllPairs (λ one other. one ≢ other) xs
 
--- Each offset is in the one list no more often than in the other.
+-- each offset is in the first list no more often than in the second
 abbrev pub IsPartOf : List ℕ → List ℕ → Type 0
 IsPartOf xs ys = (x : ℕ) → times x xs ≤ times x ys
 
@@ -40,34 +38,11 @@ part_of_part xs ys zs one other x = omega (arith, one x, other x)
 pub part_nothing : (xs : List ℕ) → IsPartOf [] xs
 part_nothing xs x = omega arith
 
-pub part_prefix : (xs ys : List ℕ) → IsPartOf xs (xs ++ ys)
-part_prefix xs ys x = omega (arith, times-append x xs ys)
-
-pub part_back : (xs ys : List ℕ) → IsPartOf ys (xs ++ ys)
-part_back xs ys x = omega (arith, times-append x xs ys)
-
 pub parts_append : (xs ys zs ws : List ℕ) → IsPartOf xs zs → IsPartOf ys ws → IsPartOf (xs ++ ys) (zs ++ ws)
 parts_append xs ys zs ws one other x = omega (arith, times-append x xs ys, times-append x zs ws, one x, other x)
 
--- each element gives a part of what it gives otherwise
-pub parts_each : {A : Type 0} (f g : A → List ℕ) (xs : List A) → AllByRecursion (λ a. IsPartOf (f a) (g a)) xs
-    → IsPartOf (flat_map f xs) (flat_map g xs)
-parts_each f g [] parts = part_itself []
-parts_each f g (a ∷ xs) parts = parts_append (f a) (flat_map f xs) (g a) (flat_map g xs) parts.0
-    (parts_each f g xs parts.1)
-
-present : (x : ℕ) (xs : List ℕ) (k : ℕ) → k < length xs → get_or xs k x ≡ x → 1 ≤ times x xs
-present x [] k within is = absurd (omega arith)
-present x (y ∷ xs) zero within is =
-    let same : (y == x) ≡ true = grind (arith, nat_tests) in
-    omega (arith, ap (λ b. cond b 1 0 + times x xs) same)
-present x (y ∷ xs) (suc k) within is = omega (arith, present x xs k (omega arith) is)
-
-pub times_from_Contains : (x : ℕ) (xs : List ℕ) → Contains xs x → 1 ≤ times x xs
-times_from_Contains x xs (k, within, is) = present x xs k within is
-
--- at any two indices of a list
-pub times_from_apart : (xs : List ℕ) → AreDistinct xs → (x : ℕ) → times x xs ≤ 1
+-- different offsets are in their list once at most
+times_from_apart : (xs : List ℕ) → AreDistinct xs → (x : ℕ) → times x xs ≤ 1
 times_from_apart [] apart x = omega arith
 times_from_apart (y ∷ xs) apart x =
     let rest : AreDistinct xs = λ i j d below within. apart (suc i) (suc j) d (omega arith) (omega arith) in
@@ -88,25 +63,9 @@ times_from_apart (y ∷ xs) apart x =
           | inr other ↦ omega (arith, more, ap (λ b. cond b 1 0 + times x xs) other)
         ]
 
--- a part of distinct offsets
+-- a part of different offsets has different offsets
 pub apart_part : (xs ys : List ℕ) → AreDistinct ys → IsPartOf xs ys → AreDistinct xs
 apart_part xs ys apart part = apart_from_times xs (λ x. omega (arith, times_from_apart ys apart x, part x))
-
--- The lists have no offset in common.
-abbrev pub AreDisjoint : List ℕ → List ℕ → Type 0
-AreDisjoint xs ys = (x : ℕ) → Contains xs x → Contains ys x → ⊥
-
--- two lists side by side in a part of distinct offsets
-pub apart_beside : (xs ys zs : List ℕ) → AreDistinct zs → IsPartOf (xs ++ ys) zs → AreDisjoint xs ys
-apart_beside xs ys zs apart part x here there =
-    absurd (omega (
-      arith,
-      times_from_apart zs apart x,
-      part x,
-      times-append x xs ys,
-      times_from_Contains x xs here,
-      times_from_Contains x ys there,
-    ))
 
 -- ---- the parts of a value
 
@@ -137,7 +96,7 @@ starts_of_keys v t is = starts_by_layer v ∙ table_layer (layer_in v) (span_in 
 pub starts_of_text : (v : Value) (text : List ℕ) → text_in v ≡ Some text → starts_in v ≡ (span_in v).start ∷ []
 starts_of_text v text is = starts_by_layer v ∙ text_layer (layer_in v) (span_in v).start text is
 
--- the starts of what a table holds at a name
+-- the starts of the value at a name of a table
 abbrev pub starts_of : Option Value → List ℕ
 starts_of None = []
 starts_of (Some v) = starts_in v
@@ -145,7 +104,7 @@ starts_of (Some v) = starts_in v
 abbrev pub starts_at : List (Key × Value) → List ℕ → List ℕ
 starts_at entries name = starts_of (value_at name entries)
 
--- how often an offset is in what an entry holds, where the entry has one of the names
+-- the number of times that an offset is in the starts of an entry, if the entry has one of the names
 abbrev named_times : ℕ → Key × Value → List (List ℕ) → ℕ
 named_times x e [] = 0
 named_times x e (n ∷ ns) = cond (has_name n e) (times x (starts_in e.1)) 0 + named_times x e ns
@@ -170,7 +129,7 @@ names_step x e es (n ∷ ns) =
       names_step x e es ns,
     )
 
--- an entry has one of several names at most
+-- an entry has at most one of different names
 named_none : (x : ℕ) (e : Key × Value) (n : List ℕ) (ns : List (List ℕ)) → has_name n e ≡ true
     → AllByRecursion (λ m. pointwise nat_eq n m ≡ false) ns → named_times x e ns ≡ 0
 named_none x e n [] has apart = refl
@@ -195,7 +154,7 @@ no_entry : (x : ℕ) (ns : List (List ℕ)) → times x (flat_map (starts_at [])
 no_entry x [] = refl
 no_entry x (n ∷ ns) = no_entry x ns
 
--- What a table holds at distinct names is a part of it.
+-- the starts of the values at different names are a part of the table's starts
 pub names_part : (ns : List (List ℕ)) (entries : List (Key × Value)) → IsDistinct (pointwise nat_eq) ns
     → IsPartOf (flat_map (starts_at entries) ns) (starts_of_entries entries)
 names_part ns [] apart x = omega (arith, no_entry x ns)
@@ -215,72 +174,3 @@ name_part n entries v is x =
     let part : times x (starts_at entries n ++ []) ≤ times x (starts_of_entries entries) =
     names_part (n ∷ []) entries (tt, tt) x in
     omega (arith, part, times-append x (starts_at entries n) [], ap (λ o. times x (starts_of o)) is)
-
--- at two names of a table
-pub apart_names : (m n : List ℕ) (entries : List (Key × Value)) (v w : Value) → pointwise nat_eq m n ≡ false
-    → value_at m entries ≡ Some v → value_at n entries ≡ Some w
-    → AreDistinct (starts_of_entries entries) → AreDisjoint (starts_in v) (starts_in w)
-unfolding IsDistinct
-apart_names m n entries v w other here there apart =
-    let part : IsPartOf (starts_at entries m ++ (starts_at entries n ++ [])) (starts_of_entries entries) =
-    names_part (m ∷ n ∷ []) entries ((other, tt), (tt, tt)) in
-    apart_beside (starts_in v) (starts_in w) (starts_of_entries entries) apart
-    (λ x. omega (
-      arith,
-      part x,
-      times-append x (starts_in v) (starts_in w),
-      times-append x (starts_at entries m) (starts_at entries n ++ []),
-      times-append x (starts_at entries n) [],
-      ap (λ o. times x (starts_of o)) here,
-      ap (λ o. times x (starts_of o)) there,
-    ))
-
--- at two indices of an array
-pub apart_elements : (vs : List Value) → AreDistinct (flat_map starts_in vs)
-    → AllPairs (λ v w. AreDisjoint (starts_in v) (starts_in w)) vs
-apart_elements [] apart = λ i j d below within. absurd (omega arith)
-apart_elements (v ∷ vs) apart =
-    let rest = apart_part (flat_map starts_in vs) (starts_in v ++ flat_map starts_in vs) apart
-    (part_back (starts_in v) (flat_map starts_in vs)) in
-    AllPairs-cons (λ v w. AreDisjoint (starts_in v) (starts_in w)) v vs
-    (beside vs (starts_in v ++ flat_map starts_in vs) apart (part_itself (starts_in v ++ flat_map starts_in vs)))
-    (apart_elements vs rest)
-  where
-    beside : (ws : List Value) (all : List ℕ) → AreDistinct all → IsPartOf (starts_in v ++ flat_map starts_in ws) all
-        → All (λ w. AreDisjoint (starts_in v) (starts_in w)) ws
-    beside [] all apart part = All-nil (λ w. AreDisjoint (starts_in v) (starts_in w))
-    beside (w ∷ ws) all apart part =
-        let first : IsPartOf (starts_in v ++ starts_in w) all =
-        λ x. omega (
-          arith,
-          part x,
-          times-append x (starts_in v) (starts_in w ++ flat_map starts_in ws),
-          times-append x
-              (starts_in w) (flat_map starts_in ws),
-          times-append x (starts_in v) (starts_in w),
-        ) in
-        let others : IsPartOf (starts_in v ++ flat_map starts_in ws) all =
-        λ x. omega (
-          arith,
-          part x,
-          times-append x (starts_in v) (starts_in w ++ flat_map starts_in ws),
-          times-append x
-              (starts_in w) (flat_map starts_in ws),
-          times-append x (starts_in v) (flat_map starts_in ws),
-        ) in
-        All-cons (λ w. AreDisjoint (starts_in v) (starts_in w)) w ws
-        (apart_beside (starts_in v) (starts_in w) all apart first) (beside ws all apart others)
-
--- the parts of a value are apart too
-pub elements_apart : (vs : List Value) → AreDistinct (flat_map starts_in vs) → AllByRecursion AreApart vs
-elements_apart [] apart = tt
-elements_apart (v ∷ vs) apart =
-    let all = starts_in v ++ flat_map starts_in vs in (
-      apart_part (starts_in v) all apart (part_prefix (starts_in v) (flat_map starts_in vs)),
-      elements_apart vs
-          (apart_part (flat_map starts_in vs) all apart (part_back (starts_in v) (flat_map starts_in vs))),
-    )
-
-pub name_apart : (n : List ℕ) (entries : List (Key × Value)) (v : Value) → value_at n entries ≡ Some v
-    → AreDistinct (starts_of_entries entries) → AreApart v
-name_apart n entries v is apart = apart_part (starts_in v) (starts_of_entries entries) apart (name_part n entries v is)

@@ -1,4 +1,4 @@
--- An offset is in a tree no more often than in what its lines put.
+-- An offset is among the starts of a tree no more often than in the lines from which it is made.
 use Rattle.std.proofs.Common.{◌≡◌, ℕ, zero, suc, ◌+◌, ◌≤◌, Bool, true, false, cond, List, [], ◌∷◌, ◌++◌, map, refl, sym}
 use Rattle.std.proofs.Common.{ap, subst, ◌∙◌, inl, inr, arith}
 use Rattle.std.proofs.lemmas.Bool.{cases_Bool}
@@ -14,12 +14,12 @@ use Rattle.deny_toml_grammar.specs.declared.parts.Key.{Key}
 use Rattle.deny_toml_tree.specs.declared.value.Value.{Value}
 use Rattle.deny_toml_tree.specs.declared.value.Table.{Table}
 use Rattle.deny_toml_tree.specs.declared.value.Content.TheVariants as content
-use Rattle.deny_toml_grammar.specs.declared.expression.Expression.{Expression}
-use Rattle.deny_toml_grammar.specs.declared.expression.Expression.TheVariants as expression
-use Rattle.deny_toml_tree.specs.declared.tree.Line.{Line}
-use Rattle.deny_toml_tree.specs.declared.tree.Member.{Member}
-use Rattle.deny_toml_tree.specs.declared.tree.PathEnd.{PathEnd}
-use Rattle.deny_toml_tree.specs.declared.tree.PathEnd.TheVariants as path_end
+use Rattle.deny_toml_grammar.specs.declared.expression.TomlExpression.{TomlExpression}
+use Rattle.deny_toml_grammar.specs.declared.expression.TomlExpression.TheVariants as expression
+use Rattle.deny_toml_tree.specs.declared.lines.Line.{Line}
+use Rattle.deny_toml_tree.specs.declared.lines.TableMember.{TableMember}
+use Rattle.deny_toml_tree.specs.declared.lines.PathEnd.{PathEnd}
+use Rattle.deny_toml_tree.specs.declared.lines.PathEnd.TheVariants as path_end
 use Rattle.deny_toml_tree.specs.Value.{value_with, table_with, entries_in}
 use Rattle.deny_toml_grammar.specs.Expression.{assigned_value}
 use Rattle.deny_toml_tree.specs.Tree as tree
@@ -32,7 +32,7 @@ equal_less : Equal ≡ Less → ⊥
 equal_less e = cc
 
 module _ (x : ℕ) where
-  -- how often the offset is among the starts of a value, of several, and of what lines put
+  -- the weight: how often the offset is among the starts of a value, of several values, and of the ends of lines
   abbrev pub weight : Value → ℕ
   weight v = times x (starts_in v)
 
@@ -40,11 +40,11 @@ module _ (x : ℕ) where
   values_weight [] = 0
   values_weight (v ∷ vs) = weight v + values_weight vs
 
-  abbrev pub entries_weight : List (Key × Value) → ℕ
+  abbrev entries_weight : List (Key × Value) → ℕ
   entries_weight [] = 0
   entries_weight (e ∷ es) = weight e.1 + entries_weight es
 
-  abbrev pub members_weight : List Member → ℕ
+  abbrev pub members_weight : List TableMember → ℕ
   members_weight [] = 0
   members_weight (m ∷ ms) = weight m.value + members_weight ms
 
@@ -98,7 +98,7 @@ module _ (x : ℕ) where
   as_table_weight (path_end.Table ms) = refl
   as_table_weight (path_end.Element ms) = refl
 
-  -- each line goes to one element at most
+  -- each line belongs to one element at most
   elements_weight : (ls : List Line) → parts_weight (tree.elements ls) + lines_weight (tree.until_element ls) ≤
       lines_weight ls
   unfolding tree.elements tree.until_element
@@ -113,7 +113,7 @@ module _ (x : ℕ) where
 
   -- ---- the lines that lead through names
 
-  -- what a step weighs in the lists of lines through names
+  -- the weight of a step in the lists of lines through the names
   abbrev led_weight : List ℕ × Line → List (List ℕ) → ℕ
   led_weight s [] = 0
   led_weight s (n ∷ ns) = cond (pointwise nat_eq s.0 n) (line_weight s.1) 0 + led_weight s ns
@@ -139,7 +139,7 @@ module _ (x : ℕ) where
   through_more [] s ss = refl
   through_more (n ∷ ns) s ss = omega (arith, through_step n s ss, through_more ns s ss)
 
-  -- a name that differs from all others
+  -- a name that differs from all of the names leads through none of their lists
   led_none : (s : List ℕ × Line) (n : List ℕ) (ns : List (List ℕ)) → pointwise nat_eq s.0 n ≡ true
       → AllByRecursion (λ m. slice_cmp nat_cmp n m ≡ Less) ns → led_weight s ns ≡ 0
   led_none s n [] same below = refl
@@ -176,7 +176,7 @@ module _ (x : ℕ) where
   member_steps_weight v [] = omega arith
   member_steps_weight v (key ∷ path) = omega arith
 
-  members_steps_weight : (ms : List Member) → steps_weight (flat_map (λ m. tree.member_steps m.value m.path) ms) ≤
+  members_steps_weight : (ms : List TableMember) → steps_weight (flat_map (λ m. tree.member_steps m.value m.path) ms) ≤
       members_weight ms
   members_steps_weight [] = omega arith
   members_steps_weight (m ∷ ms) =
@@ -209,7 +209,7 @@ module _ (x : ℕ) where
 
   -- ---- tables
 
-  -- Tables weigh no more than the lines that they are made of.
+  -- tables weigh no more than the lines that they are made of
   abbrev IsNoMore : (List Line → Table) → Type 0
   IsNoMore make = (ls : List Line) → table_weight (make ls) ≤ lines_weight ls
 
@@ -280,26 +280,27 @@ module _ (x : ℕ) where
   table_of_no_more ls = tables_no_more (tree.depth ls) ls
 
   -- the keys of an inline table
-  pub members_no_more : (span : Span) (ms : List Member) → table_weight (tree.table_of_members span ms) ≤ members_weight
+  pub members_no_more : (span : Span) (ms : List TableMember) → table_weight (tree.table_of_members span ms)
+      ≤ members_weight
       ms
   members_no_more span ms = omega (arith, table_of_no_more (tree.line_at span [] (path_end.Table ms) ∷ []))
 
   -- ---- a document
 
-  abbrev pub assigned_weight : Expression → ℕ
+  abbrev pub assigned_weight : TomlExpression → ℕ
   assigned_weight (expression.Assignment a) = weight (tree.written_value (assigned_value a))
   assigned_weight (expression.Header h) = 0
 
-  abbrev pub document_weight : List Expression → ℕ
+  abbrev pub document_weight : List TomlExpression → ℕ
   document_weight [] = 0
   document_weight (e ∷ es) = assigned_weight e + document_weight es
 
-  header_end_weight : (b : Bool) (ms : List Member) → end_weight (tree.header_end b ms) ≡ members_weight ms
+  header_end_weight : (b : Bool) (ms : List TableMember) → end_weight (tree.header_end b ms) ≡ members_weight ms
   header_end_weight true ms = refl
   header_end_weight false ms = refl
 
-  -- each assignment goes to one line
-  lines_no_more : (span : Span) (es : List Expression) → members_weight (tree.leading es) + lines_weight
+  -- each assignment belongs to one line
+  lines_no_more : (span : Span) (es : List TomlExpression) → members_weight (tree.leading es) + lines_weight
       (tree.header_lines span es) ≤ document_weight es
   unfolding tree.leading tree.header_lines
   lines_no_more span [] = omega arith
@@ -310,7 +311,7 @@ module _ (x : ℕ) where
     lines_no_more span es,
   )
 
-  pub tree_no_more : (span : Span) (es : List Expression) → weight (tree.tree span es) ≤ document_weight es
+  pub tree_no_more : (span : Span) (es : List TomlExpression) → weight (tree.tree span es) ≤ document_weight es
   tree_no_more span es = omega (
     arith,
     table_no_more tree.table_of table_of_no_more (tree.lines span es),

@@ -1,4 +1,4 @@
--- How the clash rule goes on with one segment, one key or one line more.
+-- The clash rule for one more segment, key or line.
 use Rattle.std.proofs.Common.{◌≡◌, ℕ, ◌+◌, ◌<◌, ◌≤◌, ◌==◌, ◌&&◌, ◌||◌, Bool, true, false, List, [], ◌∷◌, ◌++◌, length}
 use Rattle.std.proofs.Common.{drop, map, refl, sym, ap, ◌∙◌, Option, Some, None, Result, Ok, Err, arith, add-one}
 use Rattle.std.proofs.Math.Bool.{and-true}
@@ -18,7 +18,7 @@ use Rattle.deny_toml_tree.specs.declared.clash.Role.TheVariants.{HeaderPasses, H
 use Rattle.deny_toml_tree.specs.declared.clash.Role.TheVariants.{KeySets}
 use Rattle.deny_toml_grammar.specs.declared.parts.Key.{Key}
 use Rattle.deny_toml_grammar.specs.declared.expression.Header.{Header}
-use Rattle.deny_toml_grammar.specs.declared.expression.Expression.{Expression}
+use Rattle.deny_toml_grammar.specs.declared.expression.TomlExpression.{TomlExpression}
 use Rattle.deny_toml_grammar.specs.declared.expression.Written.{Written, fold-roll-Written}
 use Rattle.deny_toml_grammar.specs.declared.expression.Assignment.{Assignment, fold-Assignment, fold_out-Assignment}
 use Rattle.deny_toml_grammar.specs.declared.expression.WrittenContent.{WrittenContent, WrittenContent-F}
@@ -30,38 +30,40 @@ use Rattle.deny_toml_grammar.specs.declared.expression.WrittenContent.TheVariant
 use Rattle.deny_toml_grammar.specs.declared.expression.WrittenContent.TheVariants.{rolls-InlineTable}
 use Rattle.deny_toml_grammar.specs.declared.parts.Scalar.{Scalar}
 use Rattle.deny_toml_grammar.specs.Expression.{written_with, assigned_path, assigned_value}
-use Rattle.deny_toml_tree.specs.Clash.{Segment, at_slot, passes_header, passes, names_array, sets, may_stand, table_of}
-use Rattle.deny_toml_tree.specs.Clash.{stand, follow, walk, walk_header, walk_key, Line, header_line, is_empty}
+use Rattle.deny_toml_tree.specs.Clash.{Segment, at_slot, passes_header, passes, names_array, sets, may_duplicate}
+use Rattle.deny_toml_tree.specs.Clash.{table_of}
+use Rattle.deny_toml_tree.specs.Clash.{hold, follow, walk, walk_header, walk_key, ClashLine, header_line, is_empty}
 use Rattle.deny_toml_tree.specs.Clash.{clash_after}
 use Rattle.deny_toml_tree.specs.Clash.{first_of, clash_of_content, line_of_assignment, clash_in, member_line, line_of}
 
--- whether a segment may stand where one more does, by whether it might before
-abbrev pub may_stand_more : Role → Role → Bool → Bool → Bool
-may_stand_more HeaderPasses role might free = might && not (sets role)
-may_stand_more HeaderNames role might free = might && passes_header role
-may_stand_more ArrayNames role might free = if free then names_array role else might
-may_stand_more KeyPasses role might free = might && passes role
-may_stand_more KeySets role might free = false
+-- whether a segment may be at a slot with one more segment, from whether it might be there before
+abbrev pub may_occur_more : Role → Role → Bool → Bool → Bool
+may_occur_more HeaderPasses role might free = might && not (sets role)
+may_occur_more HeaderNames role might free = might && passes_header role
+may_occur_more ArrayNames role might free = if free then names_array role else might
+may_occur_more KeyPasses role might free = might && passes role
+may_occur_more KeySets role might free = false
 
 not_or : (a b : Bool) → not (a || (b || false)) ≡ (not a && not b)
 not_or true b = refl
 not_or false true = refl
 not_or false false = refl
 
-pub may_stand-more : (q role : Role) (there : List Role) → may_stand q (there ++ role ∷ []) ≡ may_stand_more q role
-    (may_stand q there) (may_stand KeySets there)
-may_stand-more HeaderPasses role there = ap not (list_any-append sets there (role ∷ []))
+pub may_duplicate-more : (q role : Role) (there : List Role) → may_duplicate q (there ++ role ∷ []) ≡ may_occur_more q
+    role
+    (may_duplicate q there) (may_duplicate KeySets there)
+may_duplicate-more HeaderPasses role there = ap not (list_any-append sets there (role ∷ []))
     ∙ not_or (list_any sets there) (sets role)
-may_stand-more HeaderNames role there = list_all-append passes_header there (role ∷ [])
+may_duplicate-more HeaderNames role there = list_all-append passes_header there (role ∷ [])
     ∙ ap (λ b. list_all passes_header there && b) (and-true (passes_header role))
-may_stand-more ArrayNames role [] = refl
-may_stand-more ArrayNames role (first ∷ there) = refl
-may_stand-more KeyPasses role there = list_all-append passes there (role ∷ [])
+may_duplicate-more ArrayNames role [] = refl
+may_duplicate-more ArrayNames role (first ∷ there) = refl
+may_duplicate-more KeyPasses role there = list_all-append passes there (role ∷ [])
     ∙ ap (λ b. list_all passes there && b) (and-true (passes role))
-may_stand-more KeySets role [] = refl
-may_stand-more KeySets role (first ∷ there) = refl
+may_duplicate-more KeySets role [] = refl
+may_duplicate-more KeySets role (first ∷ there) = refl
 
--- the table where one more segment stands
+-- the table at the slot of one more segment
 pub table_of-first : (segment : Segment) → table_of (segment ∷ []) ≡ segment.number
 table_of-first segment = by_test (names_array segment.role)
   where
@@ -85,7 +87,8 @@ pub at_slot-more : (table : ℕ) (name : List ℕ) (before : List Segment) (segm
 at_slot-more table name before segment = filter-append (λ s. (s.table == table) && bytes_eq s.name name) before
     (segment ∷ [])
 
--- a path is walked segment by segment
+-- ---- the segments of a path, in order
+--
 -- the role of a part of a path
 pub role_last : (passing last : Role) (path : List Key) (part : ℕ) → part + 1 ≡ length path
     → (if is_empty (drop (part + 1) path) then last else passing) ≡ last
@@ -97,17 +100,17 @@ role_passing passing last [] part more = absurd (omega (arith, more))
 role_passing passing last (first ∷ path) part more = rw (drop-cons (first ∷ path) (part + 1) first more) refl
 
 pub walk_on : (before now : List Segment) (table entered : ℕ) (passing last : Role) (path rest : List Key) (part : Key)
-    → path ≡ part ∷ rest → stand before table (if is_empty rest then last else passing) part ≡ Ok (now, entered)
+    → path ≡ part ∷ rest → hold before table (if is_empty rest then last else passing) part ≡ Ok (now, entered)
     → walk before table passing last path ≡ walk now entered passing last rest
 unfolding walk
-walk_on before now table entered passing last path rest part is stands = rw (is, stands) refl
+walk_on before now table entered passing last path rest part is holds = rw (is, holds) refl
 
 pub walk_stops : (before : List Segment) (table : ℕ) (passing last : Role) (path rest : List Key) (part : Key)
     (span : Span)
-    → path ≡ part ∷ rest → stand before table (if is_empty rest then last else passing) part ≡ Err span
+    → path ≡ part ∷ rest → hold before table (if is_empty rest then last else passing) part ≡ Err span
     → walk before table passing last path ≡ Err span
 unfolding walk
-walk_stops before table passing last path rest part span is stands = rw (is, stands) refl
+walk_stops before table passing last path rest part span is holds = rw (is, holds) refl
 
 pub walk_ends : (before : List Segment) (table : ℕ) (passing last : Role) (path : List Key) (part : ℕ)
     → length path ≤ part
@@ -117,25 +120,25 @@ walk_ends before table passing last path part past = rw (drop_of_length-le path 
 
 -- ---- lines
 
-pub header_goes : (before now : List Segment) (table entered : ℕ) (h : Header) (lines : List Line)
+pub header_goes : (before now : List Segment) (table entered : ℕ) (h : Header) (lines : List ClashLine)
     → walk_header before h ≡ Ok (now, entered)
     → clash_after before table (header_line h ∷ lines) ≡ clash_after now entered lines
 unfolding clash_after
 header_goes before now table entered h lines is = rw is refl
 
-pub header_clashes : (before : List Segment) (table : ℕ) (h : Header) (lines : List Line) (span : Span)
+pub header_clashes : (before : List Segment) (table : ℕ) (h : Header) (lines : List ClashLine) (span : Span)
     → walk_header before h ≡ Err span
     → clash_after before table (header_line h ∷ lines) ≡ Some span
 unfolding clash_after
 header_clashes before table h lines span is = rw is refl
 
-pub key_goes : (before now : List Segment) (table entered : ℕ) (a : Assignment) (lines : List Line)
+pub key_goes : (before now : List Segment) (table entered : ℕ) (a : Assignment) (lines : List ClashLine)
     → walk_key before table (assigned_path a) ≡ Ok (now, entered) → clash_in (assigned_value a) ≡ None
     → clash_after before table (member_line a ∷ lines) ≡ clash_after now table lines
 unfolding clash_after
 key_goes before now table entered a lines is none = rw (is, none) refl
 
-pub key_clashes : (before : List Segment) (table : ℕ) (a : Assignment) (lines : List Line) (span : Span)
+pub key_clashes : (before : List Segment) (table : ℕ) (a : Assignment) (lines : List ClashLine) (span : Span)
     → follow (walk_key before table (assigned_path a)) Some (λ _ _. clash_in (assigned_value a)) ≡ Some span
     → clash_after before table (member_line a ∷ lines) ≡ Some span
 unfolding clash_after
@@ -149,12 +152,12 @@ key_clashes before table a lines span is = by_walk (walk_key before table (assig
     by_walk (Ok p) (Some found) rest e = e
     by_walk (Err found) inner rest e = e
 
-pub lines_end : (before : List Segment) (table : ℕ) (lines : List Line) → lines ≡ []
+pub lines_end : (before : List Segment) (table : ℕ) (lines : List ClashLine) → lines ≡ []
     → clash_after before table lines ≡ None
 unfolding clash_after
 lines_end before table lines is = rw is refl
 
--- a list from one element on
+-- a list from one index on is its element and the list from the next index on
 pub drop_next : {A : Type 0} (xs : List A) (i : ℕ) (x : A) → i < length xs → x ≡ slice_index_or xs i x
     → drop i xs ≡ x ∷ drop (i + 1) xs
 drop_next xs i x inside is = rw (drop-cons xs i x inside, ← is, add-one) refl
@@ -166,7 +169,7 @@ map_next f xs i x inside is = ap (map f) (drop_next xs i x inside is)
 pub map_end : {A B : Type 0} (f : A → B) (xs : List A) (i : ℕ) → length xs ≤ i → map f (drop i xs) ≡ []
 map_end f xs i past = rw (drop_of_length-le xs past) refl
 
-pub lines_next : (expressions : List Expression) (i : ℕ) (item e : Expression) → i < length expressions
+pub lines_next : (expressions : List TomlExpression) (i : ℕ) (item e : TomlExpression) → i < length expressions
     → item ≡ slice_index_or expressions i item → item ≡ e
     → map line_of (drop i expressions) ≡ line_of e ∷ map line_of (drop (i + 1) expressions)
 lines_next expressions i item e inside at is = map_next line_of expressions i item inside at
@@ -175,10 +178,11 @@ lines_next expressions i item e inside at is = map_next line_of expressions i it
 -- ---- values, by what is written
 
 abbrev pub fold_content : WrittenContent → Option Span
-fold_content = fold-WrittenContent (Option Span) Line (Option Span) clash_of_content line_of_assignment (λ w. w.content)
+fold_content = fold-WrittenContent (Option Span) ClashLine (Option Span) clash_of_content line_of_assignment
+    (λ w. w.content)
 
-abbrev pub fold_member : Assignment → Line
-fold_member = fold-Assignment (Option Span) Line (Option Span) clash_of_content line_of_assignment (λ w. w.content)
+abbrev pub fold_member : Assignment → ClashLine
+fold_member = fold-Assignment (Option Span) ClashLine (Option Span) clash_of_content line_of_assignment (λ w. w.content)
 
 map_same : {A B : Type 0} (f g : A → B) → ((x : A) → f x ≡ g x) → (xs : List A) → map f xs ≡ map g xs
 map_same f g same [] = refl
@@ -186,14 +190,16 @@ map_same f g same (x ∷ xs) = λ i. same x i ∷ map_same f g same xs i
 
 clash_in-content : (span : Span) (content : WrittenContent) → clash_in (written_with span content) ≡ fold_content
     content
-clash_in-content span content = fold-roll-Written (Option Span) Line (Option Span) clash_of_content line_of_assignment
+clash_in-content span content = fold-roll-Written (Option Span) ClashLine (Option Span) clash_of_content
+    line_of_assignment
     (λ w. w.content) (record { span = span; content = content })
 
 content-is : (x : WrittenContent-F WrittenContent Assignment Written) (content : WrittenContent)
     → roll-WrittenContent x ≡ content
-    → fold_content content ≡ clash_of_content (map-WrittenContent WrittenContent Assignment Written (Option Span) Line
+    → fold_content content ≡ clash_of_content (map-WrittenContent WrittenContent Assignment Written (Option Span)
+    ClashLine
     (Option Span) fold_content fold_member clash_in x)
-content-is x content is = ap fold_content (sym is) ∙ fold-roll-WrittenContent (Option Span) Line (Option Span)
+content-is x content is = ap fold_content (sym is) ∙ fold-roll-WrittenContent (Option Span) ClashLine (Option Span)
     clash_of_content line_of_assignment (λ w. w.content) x
 
 pub clash_in-scalar : (span : Span) (scalar : Scalar) → clash_in (written_with span (written.Scalar scalar)) ≡ None
@@ -211,5 +217,5 @@ clash_in-table span members =
     clash_in-content span (written.InlineTable members)
     ∙ (content-is (open_content.InlineTable members) _ (rolls-InlineTable members)
     ∙ ap (clash_after [] 0) (map_same fold_member member_line
-    (fold_out-Assignment (Option Span) Line (Option Span) clash_of_content line_of_assignment (λ w. w.content))
+    (fold_out-Assignment (Option Span) ClashLine (Option Span) clash_of_content line_of_assignment (λ w. w.content))
     members))

@@ -10,7 +10,7 @@ use Rattle.deny_toml_tree.specs.declared.value.Value.{Value}
 use Rattle.deny_toml_tree.specs.Calls.{has_name, entry_at, without}
 
 module _ {X : Type 0} (p : X → Bool) where
-  -- the first element that passes stands at the first index that does
+  -- the first element that passes is the one at the first index that passes
   find_at_first : (xs : List X) (i : ℕ) (d : X) → i < length xs → p (get_or xs i d) ≡ true
       → ((k : ℕ) → k < i → p (get_or xs k d) ≡ false)
       → find p xs ≡ Some (get_or xs i d)
@@ -19,7 +19,7 @@ module _ {X : Type 0} (p : X → Bool) where
   find_at_first (x ∷ xs) (suc i) d below passes fails =
       rw (fails 0 (omega arith)) (find_at_first xs i d (omega arith) passes (λ k h. fails (suc k) (omega arith)))
 
-  pub find-position : (xs : List X) (i : ℕ) (d : X) → position p xs ≡ Some i → find p xs ≡ Some (get_or xs i d)
+  find-position : (xs : List X) (i : ℕ) (d : X) → position p xs ≡ Some i → find p xs ≡ Some (get_or xs i d)
   find-position xs i d at = let first = position-Some p xs i d at in find_at_first xs i d first.0 first.1 first.2
 
   no_position : (xs : List X) (b : Bool) → nat_lt (position_or_len p xs) (length xs) ≡ b
@@ -38,10 +38,10 @@ module _ {X : Type 0} (p : X → Bool) where
   none_found [] fails = refl
   none_found (x ∷ xs) fails = rw (fails 0 x (omega arith)) (none_found xs (λ k d below. fails (suc k) d (omega arith)))
 
-  pub find-position_none : (xs : List X) → position p xs ≡ None → find p xs ≡ None
+  find-position_none : (xs : List X) → position p xs ≡ None → find p xs ≡ None
   find-position_none xs none = none_found xs (none_passes xs none)
 
--- the entries without that at the first index of a name
+-- the entries without the one at the first index of a name
 without_at_first : (name : List ℕ) (es : List (Key × Value)) (i : ℕ) (d : Key × Value) → i < length es
     → has_name name (get_or es i d) ≡ true
     → ((k : ℕ) → k < i → has_name name (get_or es k d) ≡ false) → without name es ≡ remove es i
@@ -52,7 +52,7 @@ without_at_first name (e ∷ es) (suc i) d below passes fails =
     rw (fails 0 (omega arith)) (ap (λ rest. e ∷ rest) (without_at_first name es i d (omega arith) passes
     (λ k h. fails (suc k) (omega arith))))
 
-pub without-position : (name : List ℕ) (es : List (Key × Value)) (i : ℕ) (d : Key × Value)
+without-position : (name : List ℕ) (es : List (Key × Value)) (i : ℕ) (d : Key × Value)
     → position (has_name name) es ≡ Some i → without name es ≡ remove es i
 without-position name es i d at = let first = position-Some (has_name name) es i d at in without_at_first name es i d
     first.0 first.1 first.2
@@ -65,11 +65,11 @@ without_none name (e ∷ es) fails =
     rw (fails 0 e (omega arith)) (ap (λ rest. e ∷ rest) (without_none name es
     (λ k d below. fails (suc k) d (omega arith))))
 
-pub without-position_none : (name : List ℕ) (es : List (Key × Value)) → position (has_name name) es ≡ None
+without-position_none : (name : List ℕ) (es : List (Key × Value)) → position (has_name name) es ≡ None
     → without name es ≡ es
 without-position_none name es none = without_none name es (none_passes (has_name name) es none)
 
--- the entry at the index that was found in a slice, and none where none was
+-- the entry at the index that was found in a slice, or none
 pub found_entry : (name : List ℕ) (es shown : List (Key × Value)) (r : Option ℕ) (i : ℕ) (e : Key × Value) → shown ≡ es
     → r ≡ position (has_name name) shown → r ≡ Some i → e ≡ get_or shown i e → Some e ≡ entry_at name es
 found_entry name es shown r i e same index found is =
@@ -82,7 +82,7 @@ no_entry name es shown r same index none =
     subst (λ xs. None ≡ find (has_name name) xs) same (sym (find-position_none (has_name name) shown
     (sym index ∙ none)))
 
--- the same where the entry is taken out of the list itself
+-- the entry at the index that was found, which is taken out of the list
 pub taken_entry : (name : List ℕ) (es shown inside : List (Key × Value)) (r : Option ℕ) (i : ℕ) (e : Key × Value)
     → shown ≡ es → inside ≡ es
     → r ≡ position (has_name name) shown → r ≡ Some i → e ≡ get_or inside i e → Some e ≡ entry_at name es

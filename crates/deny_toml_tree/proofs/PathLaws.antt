@@ -5,26 +5,20 @@ use Rattle.std.proofs.Common.{arith}
 use Rattle.std.specs.List.{slice_split, position_or_len}
 use Rattle.std.proofs.lemmas.List.{take_all}
 use Rattle.std.proofs.lemmas.Bool.Decides.{nat_tests}
-use Rattle.std.proofs.lemmas.List.Quantifiers.{position-Some}
 use Rattle.std.proofs.lemmas.List.Splits.{slice_split_first}
 use Rattle.deny_toml_tree.proofs.EntryLaws.{none_passes}
 use Rattle.std.proofs.lemmas.Bool.{cases_Bool}
 use Rattle.deny_toml_tree.specs.Calls.{is_decimal_digit, digits_index, parts_of}
 use Rattle.deny_toml_tree.specs.private.Calls.{IsPast}
 
--- digits do not make an index smaller
-pub digits_index-past : (count index : ℕ) (bytes : List ℕ) → count ≤ index → IsPast count (digits_index index bytes)
+-- further digits do not make an index smaller
+digits_index-past : (count index : ℕ) (bytes : List ℕ) → count ≤ index → IsPast count (digits_index index bytes)
 digits_index-past count index [] past = past
 digits_index-past count index (byte ∷ bytes) past =
     elim (cases_Bool (is_decimal_digit byte)) [
       | inl digit ↦ rw digit (digits_index-past count (index * 10 + (byte - 48)) bytes (omega arith))
       | inr other ↦ rw other tt
     ]
-
-pub digits_index-digit : (index next byte : ℕ) (bytes : List ℕ) → is_decimal_digit byte ≡ true
-    → next ≡ index * 10 + (byte - 48)
-    → digits_index index (byte ∷ bytes) ≡ digits_index next bytes
-digits_index-digit index next byte bytes digit is = rw (digit, is)
 
 pub digits_index-end : (count index byte : ℕ) (bytes : List ℕ)
     → (is_decimal_digit byte ≡ true → count ≤ index * 10 + (byte - 48))
@@ -35,8 +29,8 @@ digits_index-end count index byte bytes past =
       | inr other ↦ rw other tt
     ]
 
--- a path without a slash is one part
-pub no_slash : (p : ℕ → Bool) (path : List ℕ) → ((k : ℕ) (d : ℕ) → k < length path → p (get_or path k d) ≡ false)
+-- a path without a slash is its only part
+no_slash : (p : ℕ → Bool) (path : List ℕ) → ((k : ℕ) (d : ℕ) → k < length path → p (get_or path k d) ≡ false)
     → slice_split p path ≡ path ∷ []
 no_slash p [] fails = refl
 no_slash p (b ∷ path) fails =
@@ -48,21 +42,18 @@ at_position : (p : ℕ → Bool) (path : List ℕ) (end : ℕ) (b : Bool) → na
 at_position p path end true is at = (grind (arith, nat_tests), cc at)
 at_position p path end false is at = cc at
 
--- and the first slash divides the first part from the others
-pub first_slash : (path : List ℕ) (end : ℕ) → position (λ b. b == 47) path ≡ Some end
+-- the first slash ends the first part
+first_slash : (path : List ℕ) (end : ℕ) → position (λ b. b == 47) path ≡ Some end
     → parts_of path ≡ take end path ∷ parts_of (drop (end + 1) path)
 first_slash path end at =
     let (below, is) = at_position (λ b. b == 47) path end (nat_lt (position_or_len (λ b. b == 47) path) (length path))
     refl at in
     rw (← is) (slice_split_first (λ b. b == 47) path 0 below)
 
-pub slash_below : (path : List ℕ) (end : ℕ) → position (λ b. b == 47) path ≡ Some end → end < length path
-slash_below path end at = (position-Some (λ b. b == 47) path end 0 at).0
-
 pub no_slash_in : (path : List ℕ) → position (λ b. b == 47) path ≡ None → parts_of path ≡ path ∷ []
 no_slash_in path none = no_slash (λ b. b == 47) path (none_passes (λ b. b == 47) path none)
 
--- the parts as slices give them
+-- the first part and the rest of a path, as slices
 pub sliced_parts : (path : List ℕ) (end : ℕ) → position (λ b. b == 47) path ≡ Some end
     → parts_of path ≡ take end path ∷ parts_of (take (length path - (end + 1)) (drop (end + 1) path))
 sliced_parts path end at =

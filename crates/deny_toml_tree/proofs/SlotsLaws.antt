@@ -1,4 +1,4 @@
--- What is kept of the slots goes on telling of the segments, with one segment more.
+-- The slots describe the segments before, and keep doing so with one more segment.
 use Rattle.std.proofs.Common.{◌≡◌, ℕ, ◌+◌, ◌==◌, ◌&&◌, Bool, true, false, List, [], ◌∷◌, ◌++◌, length, refl, sym, ap}
 use Rattle.std.proofs.Common.{◌∙◌, subst, Option, Some, None, Result, Ok, Err, length-append}
 use Rattle.std.specs.Prelude.{if◌then◌else◌, cond, SomeIff, IsErrAnd, option_map, ◌<◌, ◌^◌}
@@ -13,7 +13,7 @@ use Rattle.std.proofs.lemmas.Bool.{eqb-true, and_parts}
 use Rattle.std.proofs.lemmas.List.{append-nil, map-append}
 use Rattle.std.proofs.lemmas.Map.Text.{is_eq-slice_cmp}
 use Rattle.std.proofs.lemmas.Slice.Eq.{bytes_eq-Decides}
-use Rattle.deny_lists.proofs.Orders.{is_eq-nat_cmp}
+use Rattle.deny_base_lists.proofs.Orders.{is_eq-nat_cmp}
 use Rattle.deny_base.specs.declared.span.Span.{Span}
 use Rattle.deny_toml_tree.specs.declared.clash.Role.{Role}
 use Rattle.deny_toml_tree.specs.declared.clash.Role.TheVariants.{HeaderPasses, HeaderNames, ArrayNames, KeyPasses}
@@ -27,12 +27,14 @@ use Rattle.deny_toml_grammar.specs.declared.parts.Key.{Key}
 use Rattle.deny_toml_grammar.specs.declared.expression.Header.{Header}
 use Rattle.deny_toml_grammar.specs.declared.expression.Assignment.{Assignment}
 use Rattle.deny_toml_grammar.specs.Expression.{assigned_path, assigned_value}
-use Rattle.deny_toml_tree.specs.Clash.{Segment, at_slot, roles_of, names_array, is_empty, may_stand, table_of}
-use Rattle.deny_toml_tree.specs.Clash.{segment_after, stand, walk, walk_header, walk_key, Line, header_line, clash_in}
+use Rattle.deny_toml_tree.specs.Clash.{Segment, at_slot, roles_of, names_array, is_empty, may_duplicate, table_of}
+use Rattle.deny_toml_tree.specs.Clash.{segment_after, hold, walk, walk_header, walk_key, ClashLine, header_line}
+use Rattle.deny_toml_tree.specs.Clash.{clash_in}
 use Rattle.deny_toml_tree.specs.Clash.{member_line, clash_after}
-use Rattle.deny_toml_tree.specs.private.Slots.{admits, occupant_after, occupant_at, TellsSlot, Tells, Takes, TakesKey}
+use Rattle.deny_toml_tree.specs.private.Slots.{admits, occupant_after, occupant_at, ReportsSlot, Reports, Takes}
+use Rattle.deny_toml_tree.specs.private.Slots.{TakesKey}
 use Rattle.deny_toml_tree.specs.private.Slots.{Finds}
-use Rattle.deny_toml_tree.proofs.ClashLaws.{may_stand_more, may_stand-more, table_of-first, table_of-array}
+use Rattle.deny_toml_tree.proofs.ClashLaws.{may_occur_more, may_duplicate-more, table_of-first, table_of-array}
 use Rattle.deny_toml_tree.proofs.ClashLaws.{table_of-other}
 use Rattle.deny_toml_tree.proofs.ClashLaws.{at_slot-more, walk_stops, key_clashes, header_clashes}
 
@@ -45,9 +47,6 @@ is_eq-then Greater s = refl
 
 slot_with : ℕ → List ℕ → Slot
 slot_with table name = record { table = table; name = record { ref_ptr = (0, 0); now = name } }
-
-slot_cmp : Slot → Slot → Ordering
-slot_cmp p q = ordering_then (nat_cmp p.table q.table) (slice_cmp nat_cmp p.name.now q.name.now)
 
 pub occupant_at-put : (old new : BTreeMap Slot Occupant) (segments more : ℕ) (slot : Slot) (occupant : Occupant)
     → ((q : Slot) → tree.get (λ a b. ordering_then (nat_cmp a.table b.table) (slice_cmp nat_cmp a.name.now b.name.now))
@@ -111,10 +110,10 @@ every_role_says p e role =
       | KeySets ↦ last.1
     ]
 
--- where a role is admitted, what it leaves admits the roles that may stand after it
+-- a role that is admitted leaves a slot that admits exactly the roles which may follow it
 follows_at : Role → Role → Option Role → Bool
 follows_at q role stood =
-    cond (admits role stood) (agree (may_stand_more q role (admits q stood) (admits KeySets stood))
+    cond (admits role stood) (agree (may_occur_more q role (admits q stood) (admits KeySets stood))
     (admits q (Some (role_after stood role)))) true
 
 follows : every_role (λ q. every_role (λ role. follows_at q role None && every_role
@@ -128,7 +127,7 @@ follows_for q role (Some stood) = every_role_says _ (and_parts _ _
     (every_role_says _ (every_role_says _ follows q) role)).1 stood
 
 admits_more : (q role : Role) (stood : Option Role) → admits role stood ≡ true
-    → may_stand_more q role (admits q stood) (admits KeySets stood) ≡ admits q (Some (role_after stood role))
+    → may_occur_more q role (admits q stood) (admits KeySets stood) ≡ admits q (Some (role_after stood role))
 unfolding follows_at
 admits_more q role stood is = agree_same _ _ (by_admitted (admits role stood) _ is (follows_for q role stood))
   where
@@ -141,35 +140,35 @@ none_there [] e = refl
 none_there (first ∷ there) e = cc
 
 table_after : (there : List Segment) (occupant : Option Occupant) (segment : Segment) (role : Role)
-    → segment.role ≡ role → TellsSlot there occupant
+    → segment.role ≡ role → ReportsSlot there occupant
     → table_of (there ++ segment ∷ []) ≡ (occupant_after occupant role segment.number).table
-table_after there None segment role is tells = rw (none_there there (tells.stand KeySets)) (table_of-first segment)
-table_after there (Some occupant) segment ArrayNames is tells = table_of-array there segment (ap names_array is)
-table_after [] (Some occupant) segment HeaderPasses is tells = cc (tells.stand KeySets)
-table_after [] (Some occupant) segment HeaderNames is tells = cc (tells.stand KeySets)
-table_after [] (Some occupant) segment KeyPasses is tells = cc (tells.stand KeySets)
-table_after [] (Some occupant) segment KeySets is tells = cc (tells.stand KeySets)
-table_after (first ∷ there) (Some occupant) segment HeaderPasses is tells =
-    table_of-other first there segment (ap names_array is) ∙ tells.table
-table_after (first ∷ there) (Some occupant) segment HeaderNames is tells =
-    table_of-other first there segment (ap names_array is) ∙ tells.table
-table_after (first ∷ there) (Some occupant) segment KeyPasses is tells =
-    table_of-other first there segment (ap names_array is) ∙ tells.table
-table_after (first ∷ there) (Some occupant) segment KeySets is tells =
-    table_of-other first there segment (ap names_array is) ∙ tells.table
+table_after there None segment role is reports = rw (none_there there (reports.hold KeySets)) (table_of-first segment)
+table_after there (Some occupant) segment ArrayNames is reports = table_of-array there segment (ap names_array is)
+table_after [] (Some occupant) segment HeaderPasses is reports = cc (reports.hold KeySets)
+table_after [] (Some occupant) segment HeaderNames is reports = cc (reports.hold KeySets)
+table_after [] (Some occupant) segment KeyPasses is reports = cc (reports.hold KeySets)
+table_after [] (Some occupant) segment KeySets is reports = cc (reports.hold KeySets)
+table_after (first ∷ there) (Some occupant) segment HeaderPasses is reports =
+    table_of-other first there segment (ap names_array is) ∙ reports.table
+table_after (first ∷ there) (Some occupant) segment HeaderNames is reports =
+    table_of-other first there segment (ap names_array is) ∙ reports.table
+table_after (first ∷ there) (Some occupant) segment KeyPasses is reports =
+    table_of-other first there segment (ap names_array is) ∙ reports.table
+table_after (first ∷ there) (Some occupant) segment KeySets is reports =
+    table_of-other first there segment (ap names_array is) ∙ reports.table
 
-tells_slot_more : (there : List Segment) (occupant : Option Occupant) (segment : Segment) → TellsSlot there occupant
+reports_slot_more : (there : List Segment) (occupant : Option Occupant) (segment : Segment) → ReportsSlot there occupant
     → admits segment.role (option_map (λ s. s.role) occupant) ≡ true
-    → TellsSlot (there ++ segment ∷ []) (Some (occupant_after occupant segment.role segment.number))
-tells_slot_more there occupant segment tells admitted =
+    → ReportsSlot (there ++ segment ∷ []) (Some (occupant_after occupant segment.role segment.number))
+reports_slot_more there occupant segment reports admitted =
     let stood : Option Role = option_map (λ s. s.role) occupant in
     record {
-      stand = λ q.
-          ap (may_stand q) (map-append (λ s. s.role) there (segment ∷ []))
-          ∙ (may_stand-more q segment.role (roles_of there)
-          ∙ (rw (tells.stand q, tells.stand KeySets) (admits_more q segment.role stood admitted)
+      hold = λ q.
+          ap (may_duplicate q) (map-append (λ s. s.role) there (segment ∷ []))
+          ∙ (may_duplicate-more q segment.role (roles_of there)
+          ∙ (rw (reports.hold q, reports.hold KeySets) (admits_more q segment.role stood admitted)
           ∙ ap (λ role. admits q (Some role)) (sym (role-occupant_after occupant segment.role segment.number))));
-      table = table_after there occupant segment segment.role refl tells;
+      table = table_after there occupant segment segment.role refl reports;
     }
 
 -- ---- one segment more
@@ -178,72 +177,72 @@ module _ (old new : Slots) (before : List Segment) (table : ℕ) (name : List �
   after : Occupant
   after = occupant_after (occupant_at old table name) role (length before + 1)
 
-  at_more : Tells old before → admits role (option_map (λ s. s.role) (occupant_at old table name)) ≡ true
+  at_more : Reports old before → admits role (option_map (λ s. s.role) (occupant_at old table name)) ≡ true
       → (t : ℕ) (n : List ℕ) (b : Bool) → (b ≡ true → (table ≡ t) × (name ≡ n))
-      → TellsSlot (at_slot t n before ++ (if b then segment_after before table role name ∷ [] else []))
+      → ReportsSlot (at_slot t n before ++ (if b then segment_after before table role name ∷ [] else []))
       (if b then Some after else occupant_at old t n)
   unfolding after
-  at_more tells admitted t n true same =
-      let here = tells_slot_more (at_slot table name before) (occupant_at old table name)
-      (segment_after before table role name) (tells.each table name) admitted in
-      subst (λ u. TellsSlot (at_slot u n before ++ segment_after before table role name ∷ []) (Some after))
+  at_more reports admitted t n true same =
+      let here = reports_slot_more (at_slot table name before) (occupant_at old table name)
+      (segment_after before table role name) (reports.each table name) admitted in
+      subst (λ u. ReportsSlot (at_slot u n before ++ segment_after before table role name ∷ []) (Some after))
       (same refl).0
-      (subst (λ m. TellsSlot (at_slot table m before ++ segment_after before table role name ∷ []) (Some after))
+      (subst (λ m. ReportsSlot (at_slot table m before ++ segment_after before table role name ∷ []) (Some after))
       (same refl).1 here)
-  at_more tells admitted t n false same = rw (append-nil (at_slot t n before)) (tells.each t n)
+  at_more reports admitted t n false same = rw (append-nil (at_slot t n before)) (reports.each t n)
 
   same_slot : (t : ℕ) (n : List ℕ) → ((table == t) && bytes_eq name n) ≡ true → (table ≡ t) × (name ≡ n)
   same_slot t n is = (eqb-true table t (and_parts _ _ is).0, (bytes_eq-Decides name n).0 (and_parts _ _ is).1)
 
-  pub tells_more : Tells old before → admits role (option_map (λ s. s.role) (occupant_at old table name)) ≡ true
+  reports_more : Reports old before → admits role (option_map (λ s. s.role) (occupant_at old table name)) ≡ true
       → new.segments ≡ old.segments + 1
       → ((t : ℕ) (n : List ℕ) → occupant_at new t n ≡ (if (table == t) && bytes_eq name n then Some
       (occupant_after (occupant_at old table name) role (length before + 1)) else occupant_at old t n))
-      → Tells new (before ++ segment_after before table role name ∷ [])
+      → Reports new (before ++ segment_after before table role name ∷ [])
   unfolding after
-  tells_more tells admitted count puts = record {
-    count = count ∙ (ap (λ k. k + 1) tells.count ∙ sym (length-append before
+  reports_more reports admitted count puts = record {
+    count = count ∙ (ap (λ k. k + 1) reports.count ∙ sym (length-append before
         (segment_after before table role name ∷ [])));
     each = λ t n.
         rw (at_slot-more t n before (segment_after before table role name), puts t n)
-        (at_more tells admitted t n ((table == t) && bytes_eq name n) (same_slot t n));
+        (at_more reports admitted t n ((table == t) && bytes_eq name n) (same_slot t n));
   }
 
--- ---- a segment that may stand, or not
+-- ---- a segment that may be at its slot, or not
 
-pub stand_refused : (slots : Slots) (before : List Segment) (table : ℕ) (role : Role) (key : Key)
+pub hold_refused : (slots : Slots) (before : List Segment) (table : ℕ) (role : Role) (key : Key)
     (there : Option Occupant)
-    → Tells slots before → there ≡ occupant_at slots table key.name
+    → Reports slots before → there ≡ occupant_at slots table key.name
     → admits role (option_map (λ s. s.role) there) ≡ false
-    → stand before table role key ≡ Err key.span
-unfolding stand
-stand_refused slots before table role key there tells is refused =
-    let none : may_stand role (roles_of (at_slot table key.name before)) ≡ false =
-    (tells.each table key.name).stand role ∙ (ap (λ s. admits role (option_map (λ s. s.role) s)) (sym is) ∙ refused) in
+    → hold before table role key ≡ Err key.span
+unfolding hold
+hold_refused slots before table role key there reports is refused =
+    let none : may_duplicate role (roles_of (at_slot table key.name before)) ≡ false =
+    (reports.each table key.name).hold role ∙ (ap (λ s. admits role (option_map (λ s. s.role) s)) (sym is) ∙ refused) in
     rw none refl
 
-pub stand_taken : (old new : Slots) (before : List Segment) (table : ℕ) (role : Role) (key : Key) (name : List ℕ)
+pub hold_taken : (old new : Slots) (before : List Segment) (table : ℕ) (role : Role) (key : Key) (name : List ℕ)
     (there : Option Occupant) (number : ℕ) (occupant : Occupant)
-    → Tells old before → name ≡ key.name → there ≡ occupant_at old table name
+    → Reports old before → name ≡ key.name → there ≡ occupant_at old table name
     → admits role (option_map (λ s. s.role) there) ≡ true
     → number ≡ old.segments + 1 → occupant ≡ occupant_after there role number → new.segments ≡ number
     → ((t : ℕ) (n : List ℕ) → occupant_at new t n ≡ (if (table == t) && bytes_eq name n then Some occupant else
     occupant_at old t n))
-    → (now : List Segment) × (stand before table role key ≡ Ok (now, occupant.table)) × Tells new now
-unfolding stand
-stand_taken old new before table role key name there number occupant tells named is admitted next stands count puts =
-    let room = tells.each table name in
+    → (now : List Segment) × (hold before table role key ≡ Ok (now, occupant.table)) × Reports new now
+unfolding hold
+hold_taken old new before table role key name there number occupant reports named is admitted next holds count puts =
+    let room = reports.each table name in
     let here : admits role (option_map (λ s. s.role) (occupant_at old table name)) ≡ true =
     subst (λ s. admits role (option_map (λ s. s.role) s) ≡ true) is admitted in
-    let allowed : may_stand role (roles_of (at_slot table name before)) ≡ true = room.stand role ∙ here in
-    let last : number ≡ length before + 1 = next ∙ ap (λ k. k + 1) tells.count in
+    let allowed : may_duplicate role (roles_of (at_slot table name before)) ≡ true = room.hold role ∙ here in
+    let last : number ≡ length before + 1 = next ∙ ap (λ k. k + 1) reports.count in
     let made : occupant_after (occupant_at old table name) role (length before + 1) ≡ occupant =
-    rw (stands, is, last) refl in (
+    rw (holds, is, last) refl in (
       before ++ segment_after before table role key.name ∷ [],
       rw (← named, allowed) (ap (λ t. Ok (before ++ segment_after before table role name ∷ [], t))
           (table_after (at_slot table name before) (occupant_at old table name) (segment_after before table role name)
           role refl room ∙ ap (λ s. s.table) made)),
-      rw (← named) (tells_more old new before table name role tells here (count ∙ next)
+      rw (← named) (reports_more old new before table name role reports here (count ∙ next)
           (λ t n. puts t n ∙ ap (λ s. if (table == t) && bytes_eq name n then Some s else occupant_at old t n)
           (sym made))),
     )
@@ -253,7 +252,7 @@ pub number_next : (sum : Option ℕ) (old number : ℕ) → sum ≡ Some number 
 number_next None old number is fits = cc is
 number_next (Some sum) old number is fits = cc (is, fits.1)
 
--- ---- what a refusal says further on
+-- ---- a refusal, in the steps after it
 
 pub takes_err : (r : Result ℕ Refusal) (slots others : Slots) (expected : Result (List Segment × ℕ) Span)
     (e : Refusal) (Q : Refusal → Type 0)
@@ -266,11 +265,11 @@ pub walk_refused : (e : Refusal) (slots : Slots) (walked : Result (List Segment 
     (table : ℕ) (passing last role : Role) (path rest : List Key) (part : Key)
     → walked ≡ walk before table passing last path → path ≡ part ∷ rest
     → role ≡ (if is_empty rest then last else passing)
-    → Takes (Err e) slots (stand before table role part) → Takes (Err e) slots walked
-walk_refused (Clash span) slots walked before table passing last role path rest part is parts roles stands =
+    → Takes (Err e) slots (hold before table role part) → Takes (Err e) slots walked
+walk_refused (Clash span) slots walked before table passing last role path rest part is parts roles holds =
     is ∙ walk_stops before table passing last path rest part span parts
-    (ap (λ r. stand before table r part) (sym roles) ∙ stands)
-walk_refused Memory slots walked before table passing last role path rest part is parts roles stands = tt
+    (ap (λ r. hold before table r part) (sym roles) ∙ holds)
+walk_refused Memory slots walked before table passing last role path rest part is parts roles holds = tt
 
 pub finds_err : (r : Result (Unit {0}) Refusal) (expected : Option Span) (e : Refusal) (Q : Refusal → Type 0)
     → IsErrAnd r Q → ((y : Refusal) → Q y → y ≡ e) → Finds (Err e) expected → Finds r expected
@@ -278,7 +277,7 @@ finds_err (Ok done) expected e Q h same is = absurd h
 finds_err (Err y) expected e Q h same is = rw (same y h) is
 
 pub key_refused : (e : Refusal) (slots : Slots) (found : Option Span) (before : List Segment) (table : ℕ)
-    (a : Assignment) (lines : List Line)
+    (a : Assignment) (lines : List ClashLine)
     → found ≡ clash_after before table (member_line a ∷ lines)
     → TakesKey (Err e) slots (walk_key before table (assigned_path a)) (clash_in (assigned_value a))
     → Finds (Err e) found
@@ -287,7 +286,7 @@ key_refused (Clash span) slots found before table a lines is clashes = is
 key_refused Memory slots found before table a lines is clashes = tt
 
 pub header_refused : (e : Refusal) (slots : Slots) (found : Option Span) (before : List Segment) (table : ℕ)
-    (h : Header) (lines : List Line)
+    (h : Header) (lines : List ClashLine)
     → found ≡ clash_after before table (header_line h ∷ lines) → Takes (Err e) slots (walk_header before h)
     → Finds (Err e) found
 header_refused (Clash span) slots found before table h lines is clashes = is

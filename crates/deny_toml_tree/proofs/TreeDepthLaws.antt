@@ -1,4 +1,4 @@
--- The number that the definition of a table goes down by is large enough: any larger one gives the same table.
+-- The depth by which a table is defined is large enough: any larger one gives an equal table.
 use Rattle.std.proofs.Common.{◌≡◌, ℕ, zero, suc, ◌+◌, ◌-◌, ◌≤◌, max, Bool, true, false, cond, List, [], ◌∷◌, ◌++◌, map}
 use Rattle.std.proofs.Common.{filter, fold, length, Option, Some, None, refl, sym, ap, ◌∙◌, arith}
 use Rattle.std.specs.Cmp.Lexicographic.{pointwise}
@@ -8,14 +8,14 @@ use Rattle.deny_toml_grammar.specs.declared.parts.Key.{Key}
 use Rattle.deny_toml_tree.specs.declared.value.Value.{Value}
 use Rattle.deny_toml_tree.specs.declared.value.Table.{Table}
 use Rattle.deny_toml_tree.specs.declared.value.Content.TheVariants as content
-use Rattle.deny_toml_tree.specs.declared.tree.Line.{Line}
-use Rattle.deny_toml_tree.specs.declared.tree.Member.{Member}
-use Rattle.deny_toml_tree.specs.declared.tree.PathEnd.{PathEnd}
-use Rattle.deny_toml_tree.specs.declared.tree.PathEnd.TheVariants as path_end
+use Rattle.deny_toml_tree.specs.declared.lines.Line.{Line}
+use Rattle.deny_toml_tree.specs.declared.lines.TableMember.{TableMember}
+use Rattle.deny_toml_tree.specs.declared.lines.PathEnd.{PathEnd}
+use Rattle.deny_toml_tree.specs.declared.lines.PathEnd.TheVariants as path_end
 use Rattle.deny_toml_tree.specs.Value.{value_with, table_with}
 use Rattle.deny_toml_tree.specs.Tree as tree
 use Rattle.deny_toml_tree.proofs.TreeOrderLaws.{all_seconds}
-use Rattle.deny_lists.proofs.Each.{all_append, all_filter, all_if}
+use Rattle.deny_base_lists.proofs.Each.{all_append, all_filter, all_if}
 
 -- a line has at most n parts left
 abbrev IsWithin : ℕ → Line → Type 0
@@ -27,17 +27,17 @@ AreWithin n ls = AllByRecursion (IsWithin n) ls
 abbrev StepsAreWithin : ℕ → List (List ℕ × Line) → Type 0
 StepsAreWithin n ss = AllByRecursion (λ s. IsWithin n s.1) ss
 
-abbrev MembersAreWithin : ℕ → List Member → Type 0
+abbrev MembersAreWithin : ℕ → List TableMember → Type 0
 MembersAreWithin n ms = AllByRecursion (λ m. length m.path ≤ n) ms
 
-members_from : (n most : ℕ) (ms : List Member) → fold (λ most m. max most (length m.path)) most ms ≤ n → (most ≤ n)
+members_from : (n most : ℕ) (ms : List TableMember) → fold (λ most m. max most (length m.path)) most ms ≤ n → (most ≤ n)
     × MembersAreWithin n ms
 members_from n most [] le = (le, tt)
 members_from n most (m ∷ ms) le =
     let (here, rest) = members_from n (max most (length m.path)) ms le in
     (omega arith, (omega arith, rest))
 
-members_within : (n : ℕ) (ms : List Member) → tree.longest ms ≤ n → MembersAreWithin n ms
+members_within : (n : ℕ) (ms : List TableMember) → tree.longest ms ≤ n → MembersAreWithin n ms
 unfolding tree.longest
 members_within n ms le = (members_from n 0 ms le).1
 
@@ -56,12 +56,12 @@ more_within : (n : ℕ) (ls : List Line) → AreWithin n ls → AreWithin (suc n
 more_within n [] all = tt
 more_within n (l ∷ ls) all = let here = all.0 in (omega arith, more_within n ls all.1)
 
--- a step takes one part
+-- a step removes one part
 one_member : (n : ℕ) (v : Value) (path : List Key) → length path ≤ suc n → StepsAreWithin n (tree.member_steps v path)
 one_member n v [] le = tt
 one_member n v (key ∷ path) le = (omega arith, tt)
 
-all_members : (n : ℕ) (ms : List Member) → MembersAreWithin (suc n) ms
+all_members : (n : ℕ) (ms : List TableMember) → MembersAreWithin (suc n) ms
     → StepsAreWithin n (flat_map (λ m. tree.member_steps m.value m.path) ms)
 all_members n [] all = tt
 all_members n (m ∷ ms) all = all_append (λ s. IsWithin n s.1) (tree.member_steps m.value m.path) _
@@ -88,7 +88,7 @@ no_member : (v : Value) (path : List Key) → length path ≤ 0 → tree.member_
 no_member v [] le = refl
 no_member v (key ∷ path) le = absurd (omega arith)
 
-no_members : (ms : List Member) → MembersAreWithin 0 ms → flat_map (λ m. tree.member_steps m.value m.path) ms ≡ []
+no_members : (ms : List TableMember) → MembersAreWithin 0 ms → flat_map (λ m. tree.member_steps m.value m.path) ms ≡ []
 no_members [] all = refl
 no_members (m ∷ ms) all = let none = no_member m.value m.path all.0 in let rest = no_members ms all.1 in rw (none, rest)
 

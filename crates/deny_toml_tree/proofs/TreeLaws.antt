@@ -1,7 +1,7 @@
--- The loops of the tree, a turn at a time.
-use Rattle.deny_lists.proofs.Orders.{text_cmp-exact}
+-- The loops of the tree, step by step.
+use Rattle.deny_base_lists.proofs.Orders.{text_cmp-exact}
 use Rattle.std.proofs.Common.{◌≡◌, ℕ, Bool, true, false, cond, List, [], ◌∷◌, ◌++◌, map, filter, fold, append_assoc}
-use Rattle.std.proofs.Common.{append-nil, length, length-append, ◌<◌, ◌+◌, arith, Some, None, unwrap_or, Ordering, refl}
+use Rattle.std.proofs.Common.{append-nil, length, length-append, ◌+◌, arith, Some, None, unwrap_or, Ordering, refl}
 use Rattle.std.proofs.Common.{sym, ap, subst, ◌∙◌}
 use Rattle.std.proofs.lemmas.Bool.{cond-true, cond-false}
 use Rattle.std.proofs.lemmas.List.{map-append, nil_from_length}
@@ -25,30 +25,31 @@ use Rattle.deny_base.specs.declared.span.Span.{Span}
 use Rattle.deny_toml_grammar.specs.declared.parts.Key.{Key}
 use Rattle.deny_toml_grammar.specs.declared.expression.Assignment.{Assignment}
 use Rattle.deny_toml_grammar.specs.declared.expression.Header.{Header}
-use Rattle.deny_toml_grammar.specs.declared.expression.Expression.{Expression}
-use Rattle.deny_toml_grammar.specs.declared.expression.Expression.TheVariants as expression
-use Rattle.deny_toml_tree.specs.declared.tree.Line.{Line}
-use Rattle.deny_toml_tree.specs.declared.tree.Member.{Member}
+use Rattle.deny_toml_grammar.specs.declared.expression.TomlExpression.{TomlExpression}
+use Rattle.deny_toml_grammar.specs.declared.expression.TomlExpression.TheVariants as expression
+use Rattle.deny_toml_tree.specs.declared.lines.Line.{Line}
+use Rattle.deny_toml_tree.specs.declared.lines.TableMember.{TableMember}
 use Rattle.deny_toml_tree.specs.Tree.{lines, leading, header_lines, header_line, written_member, until_element}
 use Rattle.deny_toml_tree.specs.Tree.{elements}
 use Rattle.deny_toml_tree.specs.Tree.{is_element, as_table, names, lines_through, groups}
 use Rattle.deny_toml_tree.specs.private.Gathered.{lines_with, elements_with, IsGrouped}
 
--- what one more item leaves as it was, all of them do
+-- an equation that each item keeps is kept by all of them
 pub goes_on : {X A : Type 0} (all before after : List X → A) (seen : List X) (x : X)
     → ((rest : List X) → all (seen ++ rest) ≡ before rest) → ((rest : List X) → before (x ∷ rest) ≡ after rest)
     → (rest : List X) → all ((seen ++ x ∷ []) ++ rest) ≡ after rest
 goes_on all before after seen x so step rest =
     ap all (append_assoc seen (x ∷ []) rest) ∙ so (x ∷ rest) ∙ step rest
 
-pub lines_begin : (span : Span) (es : List Expression) (found : List Line) (path : List Key) (members : List Member)
+pub lines_begin : (span : Span) (es : List TomlExpression) (found : List Line) (path : List Key)
+    (members : List TableMember)
     → found ≡ [] → path ≡ [] → members ≡ []
     → lines_with span found (record { path = path; is_array = false }) members es ≡ lines span es
 lines_begin span es found path members f p m = rw (f, p, m) refl
 
-pub lines_member : (span : Span) (found : List Line) (h : Header) (members : List Member) (a : Assignment)
-    (more : List Member) → more ≡ members ++ written_member a ∷ []
-    → (rest : List Expression)
+pub lines_member : (span : Span) (found : List Line) (h : Header) (members : List TableMember) (a : Assignment)
+    (more : List TableMember) → more ≡ members ++ written_member a ∷ []
+    → (rest : List TomlExpression)
     → lines_with span found h members (expression.Assignment a ∷ rest) ≡ lines_with span found h more rest
 unfolding leading header_lines
 lines_member span found h members a more is rest =
@@ -56,10 +57,10 @@ lines_member span found h members a more is rest =
     (ap (λ ms. found ++ header_line span h ms ∷ header_lines span rest)
     (sym (append_assoc members (written_member a ∷ []) (leading rest))))
 
-pub lines_header : (span : Span) (found : List Line) (h : Header) (members : List Member) (next : Header)
-    (more : List Line) (begun : Header) (none : List Member)
+pub lines_header : (span : Span) (found : List Line) (h : Header) (members : List TableMember) (next : Header)
+    (more : List Line) (begun : Header) (none : List TableMember)
     → more ≡ found ++ header_line span h members ∷ [] → begun ≡ next → none ≡ []
-    → (rest : List Expression)
+    → (rest : List TomlExpression)
     → lines_with span found h members (expression.Header next ∷ rest) ≡ lines_with span more begun none rest
 unfolding leading header_lines
 lines_header span found h members next more begun none is same empty rest =
@@ -69,7 +70,7 @@ lines_header span found h members next more begun none is same empty rest =
     ∙ sym (append_assoc found (header_line span h members ∷ [])
     (header_line span next (leading rest) ∷ header_lines span rest)))
 
-pub lines_end : (span : Span) (found : List Line) (h : Header) (members : List Member)
+pub lines_end : (span : Span) (found : List Line) (h : Header) (members : List TableMember)
     → lines_with span found h members [] ≡ found ++ header_line span h members ∷ []
 unfolding leading header_lines
 lines_end span found h members = ap (λ ms. found ++ header_line span h ms ∷ []) (append-nil members)
@@ -104,7 +105,7 @@ pub elements_end : (found : List (List Line)) (table : List Line)
 unfolding until_element elements
 elements_end found table = ap (λ ls. found ++ ls ∷ []) (append-nil table)
 
--- the lines before the first header are left out
+-- the lines before the first header are dropped
 pub elements_all : (lines : List Line) (before : List (List Line)) (leading : List Line) (found : List (List Line))
     (table : List Line) (whole rest : List (List Line))
     → before ≡ [] → leading ≡ [] → elements_with before leading lines ≡ found ++ table ∷ []
@@ -113,12 +114,7 @@ elements_all lines before leading found table whole rest none empty so is left =
     let begins : elements_with before leading lines ≡ until_element lines ∷ elements lines = rw (none, empty) refl in
     left ∙ ap (λ es. remove es 0) (is ∙ (sym so ∙ begins))
 
--- there is something to leave out
-pub elements_some : (found : List (List Line)) (table : List Line) (whole : List (List Line))
-    → whole ≡ found ++ table ∷ [] → 0 < length whole
-elements_some found table whole is = omega (arith, ap length is, length-append found (table ∷ []))
-
--- what a vector's iterator has given is a prefix of its items
+-- the items that an iterator of a vector has given are a prefix of the vector
 taken_prefix : {X A : Type 0} (s : IntoIter X A) (xs : List X) (t : IntoIter X A) → Yields into_iter_steps s xs t
     → into_iter_items s ≡ xs ++ into_iter_items t
 taken_prefix s [] t y = ap into_iter_items y
@@ -129,7 +125,7 @@ taken_len : {X A : Type 0} (s : IntoIter X A) (xs : List X) (t : IntoIter X A) �
 taken_len s [] t y = let same : into_iter_len s ≡ into_iter_len t = ap into_iter_len y in omega arith
 taken_len s (x ∷ xs) t y = let more = taken_len y.0 xs t y.2 in let one = y.1.1 in omega arith
 
--- a loop over a vector that came to its end has seen all of it
+-- a loop over a vector that has ended has seen all items
 pub taken_all : {X A : Type 0} (s : IntoIter X A) (xs : List X) (t : IntoIter X A) (all : List X)
     → Yields into_iter_steps s xs t
     → into_iter_items s ≡ all → into_iter_len s ≡ length all → into_iter_len t ≡ 0 → xs ≡ all
@@ -183,7 +179,7 @@ module _ {K : Type 0} {cmp : K → K → Ordering} (total : IsTotalOrder cmp) (e
     less_is : (n : K) → cmp k n ≡ Less → is_eq (cmp k n) ≡ false
     less_is n e = rw e
 
-    -- keys above k keep their values, and an entry of k goes before them
+    -- keys above k keep their values, and the entry of k is put before them
     kept_above : (ns : List K) → AllByRecursion (λ y. cmp k y ≡ Less) ns → pairs f ns ≡ pairs g ns
     kept_above [] all = refl
     kept_above (n ∷ ns) all =
@@ -218,14 +214,14 @@ module _ {K : Type 0} {cmp : K → K → Ordering} (total : IsTotalOrder cmp) (e
         rw (e, e) (ap (λ v. (n, v) ∷ insert_entry cmp (remove_entry (is_at (cmp k)) (pairs f ns)) k (g k))
         (others n other) ∙ ap (λ es. (n, g n) ∷ es) rest)
 
-    -- an entry that is taken out and put back with another value
+    -- an entry that is removed and inserted again with another value
     put_back : (ns : List K) → IsStrictlySortedBy cmp ns
         → insert_entry cmp (remove_entry (is_at (cmp k)) (pairs f ns)) k (g k) ≡ pairs g (insert_key cmp ns k)
     unfolding IsStrictlySortedBy
     put_back [] up = refl
     put_back (n ∷ ns) up = put_by n ns (cmp k n) refl up.0 (put_back ns up.1)
 
--- names, by their bytes
+-- the names with one more, by their bytes
 names_more : (seen : List (List ℕ × Line)) (name : List ℕ) (line : Line)
     → names (seen ++ (name, line) ∷ []) ≡ insert_key (slice_cmp nat_cmp) (names seen) name
 unfolding names
@@ -267,7 +263,7 @@ grouped_none = record { is = refl; whole = λ q. refl }
 
 module _ (seen : List (List ℕ × Line)) (name : List ℕ) (line : Line) (old mid new : List (List ℕ × List Line))
     (path_end : List Line) where
-  -- the lines of the other names stay
+  -- the lines of the other names are unchanged
   others_stay : (n : List ℕ) → is_eq (slice_cmp nat_cmp name n) ≡ false
       → lines_through n seen ≡ lines_through n (seen ++ (name, line) ∷ [])
   others_stay n e = sym (append-nil (lines_through n seen)) ∙ sym (lines_through_more n seen name line false e)

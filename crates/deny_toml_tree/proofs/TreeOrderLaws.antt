@@ -1,5 +1,5 @@
 -- The names of every table of a tree ascend.
-use Rattle.deny_lists.proofs.Each.{all_append, all_filter, all_if}
+use Rattle.deny_base_lists.proofs.Each.{all_append, all_filter, all_if}
 use Rattle.std.proofs.Common.{◌≡◌, ℕ, zero, suc, Bool, true, false, cond, List, [], ◌∷◌, map, filter, refl, sym}
 use Rattle.std.proofs.Common.{ap, subst, rules}
 use Rattle.std.specs.Cmp.Lexicographic.{slice_cmp, pointwise}
@@ -23,12 +23,12 @@ use Rattle.deny_toml_grammar.specs.declared.expression.WrittenContent.TheOpen.{W
 use Rattle.deny_toml_grammar.specs.declared.expression.WrittenContent.TheVariants.{rolls-Scalar, rolls-Array}
 use Rattle.deny_toml_grammar.specs.declared.expression.WrittenContent.TheVariants.{rolls-InlineTable}
 use Rattle.deny_toml_grammar.specs.declared.expression.Assignment.{Assignment}
-use Rattle.deny_toml_grammar.specs.declared.expression.Expression.{Expression}
-use Rattle.deny_toml_grammar.specs.declared.expression.Expression.TheVariants as expression
-use Rattle.deny_toml_tree.specs.declared.tree.Line.{Line}
-use Rattle.deny_toml_tree.specs.declared.tree.Member.{Member}
-use Rattle.deny_toml_tree.specs.declared.tree.PathEnd.{PathEnd}
-use Rattle.deny_toml_tree.specs.declared.tree.PathEnd.TheVariants as path_end
+use Rattle.deny_toml_grammar.specs.declared.expression.TomlExpression.{TomlExpression}
+use Rattle.deny_toml_grammar.specs.declared.expression.TomlExpression.TheVariants as expression
+use Rattle.deny_toml_tree.specs.declared.lines.Line.{Line}
+use Rattle.deny_toml_tree.specs.declared.lines.TableMember.{TableMember}
+use Rattle.deny_toml_tree.specs.declared.lines.PathEnd.{PathEnd}
+use Rattle.deny_toml_tree.specs.declared.lines.PathEnd.TheVariants as path_end
 use Rattle.deny_toml_tree.specs.Value.{value_with, table_with, entries_in}
 use Rattle.deny_toml_tree.specs.TreeOrder.{IsOrderly, value, IsOrderlyLayer, scalar, array, table, AreOrderly, none}
 use Rattle.deny_toml_tree.specs.TreeOrder.{more}
@@ -81,8 +81,8 @@ pub all_seconds : {X Y : Type 0} (P : Y → Type 0) (xs : List (X × Y)) → All
 all_seconds P [] all = tt
 all_seconds P (x ∷ xs) all = (all.0, all_seconds P xs all.1)
 
--- the values that a line puts are orderly
-abbrev MembersAreOrderly : List Member → Type 0
+-- the values at the ends of members are orderly
+abbrev MembersAreOrderly : List TableMember → Type 0
 MembersAreOrderly ms = AllByRecursion (λ m. IsOrderly m.value) ms
 
 abbrev PutIsOrderly : PathEnd → Type 0
@@ -100,7 +100,7 @@ one_member : (v : Value) (path : List Key) → IsOrderly v → StepsAreOrderly (
 one_member v [] is = tt
 one_member v (key ∷ path) is = (is, tt)
 
-member_steps_orderly : (ms : List Member) → MembersAreOrderly ms
+member_steps_orderly : (ms : List TableMember) → MembersAreOrderly ms
     → StepsAreOrderly (flat_map (λ m. tree.member_steps m.value m.path) ms)
 member_steps_orderly [] all = tt
 member_steps_orderly (m ∷ ms) all = all_append (λ s. PutIsOrderly s.1.path_end) (tree.member_steps m.value m.path) _
@@ -206,7 +206,7 @@ table_of_orderly : (ls : List Line) → LinesAreOrderly ls → IsOrderlyTable (t
 unfolding tree.table_of
 table_of_orderly ls all = table_orderly (tree.depth ls) ls all
 
--- what is claimed of each part of a written value
+-- the claim for each part of a written value
 abbrev ContentIsOrderly : WrittenContent → Type 0
 ContentIsOrderly c = (span : Span) → IsOrderly (value_with span (tree.written_in span c))
 
@@ -241,7 +241,7 @@ table_content ms all span =
     subst (λ k. IsOrderly (value_with span k)) (members_in span _ ms (rolls-InlineTable ms))
     (table_value span _ (table_of_orderly _ (all, tt)))
 
--- a value's content, with what is claimed of each of its parts
+-- the content of a value, with a proof of the claim for each of its parts
 abbrev Proved : Type 0
 Proved = WrittenContent-F ((c : WrittenContent) × ContentIsOrderly c) ((a : Assignment) × MemberIsOrderly a)
     ((w : Written) × WrittenIsOrderly w)
@@ -258,7 +258,7 @@ content_orderly (WrittenContent-F.InlineTable ms) = table_content (map (λ e. e.
 value_orderly_at : (span : Span) (c : WrittenContent) → ContentIsOrderly c → WrittenIsOrderly (written_with span c)
 value_orderly_at span c is = subst IsOrderly (value_is (written_with span c)) (is span)
 
--- y is x with a proof beside each part
+-- the tree of a written value is orderly
 written_orderly : (w : Written) → WrittenIsOrderly w
 written_orderly =
     ind-Written ContentIsOrderly MemberIsOrderly WrittenIsOrderly
@@ -266,17 +266,17 @@ written_orderly =
     (λ x y is. subst (λ z. WrittenIsOrderly z.value) is y.value.1)
     (λ x y is. subst (λ z. WrittenIsOrderly (roll-Written z)) is (value_orderly_at y.span y.content.0 y.content.1))
 
-leading_orderly : (es : List Expression) → MembersAreOrderly (tree.leading es)
+leading_orderly : (es : List TomlExpression) → MembersAreOrderly (tree.leading es)
 unfolding tree.leading
 leading_orderly [] = tt
 leading_orderly (expression.Assignment a ∷ es) = (written_orderly (assigned_value a), leading_orderly es)
 leading_orderly (expression.Header h ∷ es) = tt
 
-header_put_orderly : (b : Bool) (ms : List Member) → MembersAreOrderly ms → PutIsOrderly (tree.header_end b ms)
+header_put_orderly : (b : Bool) (ms : List TableMember) → MembersAreOrderly ms → PutIsOrderly (tree.header_end b ms)
 header_put_orderly true ms all = all
 header_put_orderly false ms all = all
 
-header_lines_orderly : (span : Span) (es : List Expression) → LinesAreOrderly (tree.header_lines span es)
+header_lines_orderly : (span : Span) (es : List TomlExpression) → LinesAreOrderly (tree.header_lines span es)
 unfolding tree.header_lines
 header_lines_orderly span [] = tt
 header_lines_orderly span (expression.Assignment a ∷ es) = header_lines_orderly span es
@@ -286,6 +286,6 @@ header_lines_orderly span (expression.Header h ∷ es) = (
   header_lines_orderly span es,
 )
 
-pub tree_orderly : (span : Span) (es : List Expression) → IsOrderly (tree.tree span es)
+pub tree_orderly : (span : Span) (es : List TomlExpression) → IsOrderly (tree.tree span es)
 tree_orderly span es = table_value span _ (table_of_orderly (tree.lines span es)
     (leading_orderly es, header_lines_orderly span es))

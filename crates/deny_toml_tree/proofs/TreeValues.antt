@@ -1,4 +1,4 @@
--- What stands at a slot, case by case.
+-- The value at a slot, case by case.
 use Rattle.std.proofs.Common.{◌≡◌, ◌≢◌, ℕ, zero, suc, ◌-◌, true, false, List, [], map, Some, None, arith, refl, sym, ap}
 use Rattle.std.proofs.Common.{◌∙◌, rules}
 use Rattle.std.proofs.lemmas.Bool.{cond-true, cond-false}
@@ -11,7 +11,7 @@ use Rattle.deny_toml_grammar.specs.declared.expression.Written.{Written}
 use Rattle.deny_toml_grammar.specs.declared.expression.WrittenContent.{WrittenContent, the_lemmas}
 use Rattle.deny_toml_grammar.specs.declared.expression.WrittenContent.TheVariants as written
 use Rattle.deny_toml_grammar.specs.declared.expression.Assignment.{Assignment}
-use Rattle.deny_toml_tree.specs.declared.tree.Line.{Line}
+use Rattle.deny_toml_tree.specs.declared.lines.Line.{Line}
 use Rattle.deny_toml_tree.specs.Value.{value_with, table_with}
 use Rattle.deny_toml_grammar.specs.Expression.{written_span, written_content}
 use Rattle.deny_toml_tree.specs.Tree.{written_value, written_in, written_member, table_of_members, assigned}

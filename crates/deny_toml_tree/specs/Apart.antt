@@ -1,11 +1,12 @@
--- Where the scalars of a tree begin, and that no two begin at one offset.
+-- The offsets at which the scalars of a tree begin, and trees in which no two begin at one offset.
 use Rattle.std.specs.Prelude.{ℕ, ◌≢◌, List, [], ◌∷◌, AllPairs}
 use Rattle.std.specs.List.{flat_map}
 use Rattle.deny_toml_tree.specs.declared.value.Value.{Value}
 use Rattle.deny_toml_tree.specs.declared.value.Content.TheOpen.{Content-F, Table-F, Value-F}
 use Rattle.deny_toml_tree.specs.declared.value.Content.TheFolds.{fold-Value}
 
--- what a value gives that begins at an offset: a scalar this offset, and any other the offsets of its parts
+-- the offsets at which the scalars begin in the content of a value that begins at an offset: its own, or those of its
+-- parts
 abbrev pub content_starts : Content-F (ℕ → List ℕ) (List ℕ) (List ℕ) → ℕ → List ℕ
 content_starts (Content-F.Scalar scalar) at = at ∷ []
 content_starts (Content-F.Array elements) at = flat_map (λ starts. starts) elements
@@ -21,6 +22,6 @@ value_starts v = v.content v.span.start
 unfoldable pub starts_in : Value → List ℕ
 starts_in v = fold-Value (ℕ → List ℕ) (List ℕ) (List ℕ) content_starts table_starts value_starts v
 
--- No two scalars of the value begin at one offset.
+-- no two scalars of the value begin at one offset
 abbrev pub AreApart : Value → Type 0
 AreApart v = AllPairs (λ one other. one ≢ other) (starts_in v)

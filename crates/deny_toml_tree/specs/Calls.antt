@@ -1,4 +1,4 @@
--- What a value is, and what stands below it.
+-- The kinds of a value, and the values below it.
 use Rattle.std.specs.Prelude.{ℕ, ◌+◌, ◌*◌, ◌-◌, ℤ, Bool, ◌&&◌, ◌==◌, false, not, List, [], ◌∷◌, Option, None, Some}
 use Rattle.std.specs.Prelude.{nat_le, option_map, option_and_then, find, length, slice_get, if◌then◌else◌}
 use Rattle.std.specs.List.{slice_split}
@@ -14,14 +14,14 @@ use Rattle.deny_toml_grammar.specs.declared.parts.Scalar.{Scalar}
 use Rattle.deny_toml_grammar.specs.declared.parts.Scalar.TheVariants as scalar
 use Rattle.deny_toml_tree.specs.Value.{span_in, content_in, entries_in}
 
--- one level of what a value is
+-- one layer of a value
 abbrev pub Layer : Type 0
 Layer = Content-F Content Table Value
 
 abbrev pub layer_in : Value → Layer
 layer_in v = out-Content (content_in v)
 
--- what a value is, where it is of the kind that is asked for
+-- the table, array or scalar that a value is, or none where it is of another kind
 abbrev pub table_of : Layer → Option Table
 table_of (Content-F.Table t) = Some t
 table_of _ = None
@@ -39,7 +39,7 @@ text_of (scalar.Text bytes) = Some bytes
 text_of (scalar.Multiline bytes) = Some bytes
 text_of _ = None
 
--- the text of a string on one line
+-- the text of a one-line string
 abbrev pub one_line_of : Scalar → Option (List ℕ)
 one_line_of (scalar.Text bytes) = Some bytes
 one_line_of _ = None
@@ -67,15 +67,15 @@ integer_in v = option_and_then integer_of (scalar_of (layer_in v))
 abbrev pub bool_in : Value → Option Bool
 bool_in v = option_and_then bool_of (scalar_of (layer_in v))
 
--- the text, where the value is a string on one line
+-- the text of a value that is a one-line string
 abbrev pub one_line_in : Value → Option (List ℕ)
 one_line_in v = option_and_then one_line_of (scalar_of (layer_in v))
 
--- A string on one line is as long as its range: each of its bytes stands for itself.
+-- whether a one-line string is as long as its span, so that each of its bytes writes itself
 abbrev pub is_verbatim : Value → Bool
 is_verbatim v = option_map_or (λ text. (span_in v).start + length text == (span_in v).end) (one_line_in v) false
 
--- the first entry of a name
+-- whether an entry has a name
 abbrev pub has_name : List ℕ → Key × Value → Bool
 has_name name e = pointwise nat_eq e.0.name name
 
@@ -87,15 +87,15 @@ unfoldable pub without : List ℕ → List (Key × Value) → List (Key × Value
 without name [] = []
 without name (e ∷ es) = if has_name name e then es else (e ∷ without name es)
 
--- the value of a name
+-- the value of the first entry with a name
 abbrev pub value_at : List ℕ → List (Key × Value) → Option Value
 value_at name entries = option_map (λ e. e.1) (entry_at name entries)
 
--- the value of a name in a value that is a table
+-- the value at a name of a table, or none where the value is no table
 abbrev pub below_name : List ℕ → Value → Option Value
 below_name name v = option_and_then (λ t. value_at name (entries_in t)) (table_in v)
 
--- a decimal index: digits, and no zero before another digit
+-- a decimal index: digits, without a leading zero
 abbrev pub is_decimal_digit : ℕ → Bool
 is_decimal_digit byte = nat_le 48 byte && nat_le byte 57
 
@@ -112,7 +112,7 @@ part_index (byte ∷ bytes) = if (byte == 48) && not (length bytes == 0) then No
 abbrev pub element_at : List ℕ → List Value → Option Value
 element_at part vs = option_and_then (slice_get vs) (part_index part)
 
--- what stands below a value at a part of a path: in a table at a name, in an array at an index
+-- the value at a part of a path: of a table at a name, of an array at an index
 abbrev pub below : List ℕ → Layer → Option Value
 below part (Content-F.Scalar s) = None
 below part (Content-F.Array vs) = element_at part vs
@@ -122,11 +122,11 @@ abbrev pub value_below : List (List ℕ) → Value → Option Value
 value_below [] v = Some v
 value_below (part ∷ parts) v = option_and_then (value_below parts) (below part (layer_in v))
 
--- the parts between slashes
+-- the parts of a path, which slashes divide
 abbrev pub parts_of : List ℕ → List (List ℕ)
 parts_of bytes = slice_split (λ b. b == 47) bytes
 
--- the value at a path: each part stands after a `/`, and the empty path is the value itself
+-- the value at a path: each part follows a `/`, and the empty path is the value itself
 abbrev pub value_at_path : List ℕ → Value → Option Value
 value_at_path [] v = Some v
 value_at_path (byte ∷ bytes) v = if byte == 47 then value_below (parts_of bytes) v else None

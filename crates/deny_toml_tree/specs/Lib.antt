@@ -1,6 +1,7 @@
 pub mod Value
+pub mod Faults
 pub mod Clash
-pub mod Ranges
+pub mod Spans
 pub mod Calls
 pub mod Tree
 pub mod TreeOrder

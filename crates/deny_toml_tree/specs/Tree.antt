@@ -1,8 +1,8 @@
--- Which value the headers and assignments of a text write.
+-- The tree of the headers and assignments of a text.
 --
 -- Each header, with the assignments below it, is a line that leads along its path. Seen from a slot, a line has the
--- part of its path that stands at the slot, the parts after it, and what it puts at their end. The lines that lead
--- through a slot say what stands there.
+-- part of its path at the slot, the parts after it, and what it puts at their end. The lines that lead through a slot
+-- determine the value there.
 use Rattle.std.specs.Prelude.{ℕ, zero, suc, ◌+◌, max, Bool, true, false, List, [], ◌∷◌, map, filter, fold, length}
 use Rattle.std.specs.Prelude.{nat_eq, Option, Some, None, if◌then◌else◌}
 use Rattle.std.specs.List.{flat_map}
@@ -22,12 +22,12 @@ use Rattle.deny_toml_grammar.specs.declared.expression.WrittenContent.TheOpen.{A
 use Rattle.deny_toml_grammar.specs.declared.expression.WrittenContent.TheFolds.{fold-Written, fold-WrittenContent}
 use Rattle.deny_toml_grammar.specs.declared.expression.Header.{Header}
 use Rattle.deny_toml_grammar.specs.declared.expression.Assignment.{Assignment}
-use Rattle.deny_toml_grammar.specs.declared.expression.Expression.{Expression}
-use Rattle.deny_toml_grammar.specs.declared.expression.Expression.TheVariants as expression
-use Rattle.deny_toml_tree.specs.declared.tree.Line.{Line}
-use Rattle.deny_toml_tree.specs.declared.tree.Member.{Member}
-use Rattle.deny_toml_tree.specs.declared.tree.PathEnd.{PathEnd}
-use Rattle.deny_toml_tree.specs.declared.tree.PathEnd.TheVariants as path_end
+use Rattle.deny_toml_grammar.specs.declared.expression.TomlExpression.{TomlExpression}
+use Rattle.deny_toml_grammar.specs.declared.expression.TomlExpression.TheVariants as expression
+use Rattle.deny_toml_tree.specs.declared.lines.Line.{Line}
+use Rattle.deny_toml_tree.specs.declared.lines.TableMember.{TableMember}
+use Rattle.deny_toml_tree.specs.declared.lines.PathEnd.{PathEnd}
+use Rattle.deny_toml_tree.specs.declared.lines.PathEnd.TheVariants as path_end
 use Rattle.deny_toml_grammar.specs.Expression.{span_of}
 use Rattle.deny_toml_tree.specs.Value.{value_with, table_with}
 use Rattle.deny_toml_grammar.specs.Expression.{assigned_path, assigned_value}
@@ -35,12 +35,11 @@ use Rattle.deny_toml_grammar.specs.Expression.{assigned_path, assigned_value}
 abbrev pub line_at : Span → List Key → PathEnd → Line
 line_at at path path_end = record { at = at; path = path; path_end = path_end }
 
-abbrev pub member_with : List Key → Value → Member
+abbrev pub member_with : List Key → Value → TableMember
 member_with path value = record { path = path; value = value }
 
 -- A line seen from a table that it leads into: the name of its next part, and the line from there. A line that ends at
--- the
--- table puts its keys into it, each a line of its own.
+-- the table puts its keys into it, each a line of its own.
 abbrev pub step : Key → List Key → PathEnd → List ℕ × Line
 step key path path_end = (key.name, line_at key.span path path_end)
 
@@ -72,7 +71,7 @@ lines_through name seen = map (λ s. s.1) (filter (λ s. pointwise nat_eq s.0 na
 unfoldable pub groups : List (List ℕ × Line) → List (List ℕ × List Line)
 groups seen = map (λ name. (name, lines_through name seen)) (names seen)
 
--- the part that stands at a slot in the first line that leads there
+-- the span of the part at a slot, in the first line that leads there
 abbrev pub slot_span : List Line → Span
 slot_span [] = span_of 0 0
 slot_span (line ∷ lines) = line.at
@@ -98,7 +97,7 @@ abbrev pub assigned : List Line → Option Value
 assigned [] = None
 assigned (line ∷ lines) = end_value line.path_end line.path
 
--- an element's header as that of a table
+-- the header of an element as that of a table
 abbrev pub end_as_table : PathEnd → PathEnd
 end_as_table (path_end.Element members) = path_end.Table members
 end_as_table other = other
@@ -106,7 +105,7 @@ end_as_table other = other
 abbrev pub as_table : Line → Line
 as_table line = line_at line.at line.path (end_as_table line.path_end)
 
--- The tables of an array: for each header `[[path]]` that ends here, the lines from it up to the next one.
+-- the lines of each table of an array: for each header `[[path]]` that ends here, the lines from it up to the next one
 unfoldable pub until_element : List Line → List Line
 until_element [] = []
 until_element (line ∷ lines) = if is_element line then [] else (line ∷ until_element lines)
@@ -123,9 +122,8 @@ module _ (table : List Line → Table) where
   abbrev pub array_value : List Line → Value
   array_value lines = value_with (slot_span lines) (content.Array (map table_value (elements lines)))
 
-  -- What stands at a slot is for the first line that leads there to say: the value that it assigns; an array of
-  -- tables, where
-  -- it is a header `[[path]]` that ends there; and else a table.
+  -- The value at a slot, by the first line that leads there: the value that it assigns; an array of tables, where it is
+  -- a header `[[path]]` that ends there; and else a table.
   abbrev pub value_or : Option Value → List Line → Value
   value_or (Some value) lines = value
   value_or None lines = if starts_array lines then array_value lines else table_value lines
@@ -136,13 +134,13 @@ module _ (table : List Line → Table) where
   abbrev pub entry_of : List ℕ × List Line → Key × Value
   entry_of group = (record { name = group.0; span = slot_span group.1 }, value_of_lines group.1)
 
--- the table that these lines lead into, of which each has at most n parts left
+-- the table that these lines lead into, each of which has at most n parts left
 unfoldable pub table : ℕ → List Line → Table
 table zero lines = table_with []
 table (suc n) lines = table_with (map (entry_of (table n)) (groups (steps lines)))
 
--- the most parts that a line has left, with those of a key below its header
-unfoldable pub longest : List Member → ℕ
+-- the largest number of parts that a key has
+unfoldable pub longest : List TableMember → ℕ
 longest members = fold (λ most m. max most (length m.path)) 0 members
 
 abbrev pub end_depth : PathEnd → ℕ
@@ -157,52 +155,52 @@ unfoldable pub table_of : List Line → Table
 table_of lines = table (depth lines) lines
 
 -- the keys of one table
-abbrev pub table_of_members : Span → List Member → Table
+abbrev pub table_of_members : Span → List TableMember → Table
 table_of_members span members = table_of (line_at span [] (path_end.Table members) ∷ [])
 
--- A value as written, with its parts: its span stays, and the keys of an inline table are a document of their own.
-abbrev pub content_step : WrittenContent-F (Span → Content) Member Value → Span → Content
+-- A written value with its parts: its span is kept, and the keys of an inline table are a document of their own.
+abbrev pub content_step : WrittenContent-F (Span → Content) TableMember Value → Span → Content
 content_step (WrittenContent-F.Scalar scalar) span = content.Scalar scalar
 content_step (WrittenContent-F.Array values) span = content.Array values
 content_step (WrittenContent-F.InlineTable members) span = content.Table (table_of_members span members)
 
-abbrev pub member_step : Assignment-F (Span → Content) Member Value → Member
+abbrev pub member_step : Assignment-F (Span → Content) TableMember Value → TableMember
 member_step a = member_with a.path a.value
 
-abbrev pub value_step : Written-F (Span → Content) Member Value → Value
+abbrev pub value_step : Written-F (Span → Content) TableMember Value → Value
 value_step w = value_with w.span (w.content w.span)
 
 abbrev pub written_value : Written → Value
-written_value = fold-Written (Span → Content) Member Value content_step member_step value_step
+written_value = fold-Written (Span → Content) TableMember Value content_step member_step value_step
 
 abbrev pub written_in : Span → WrittenContent → Content
-written_in span c = fold-WrittenContent (Span → Content) Member Value content_step member_step value_step c span
+written_in span c = fold-WrittenContent (Span → Content) TableMember Value content_step member_step value_step c span
 
-abbrev pub written_member : Assignment → Member
+abbrev pub written_member : Assignment → TableMember
 written_member a = member_with (assigned_path a) (written_value (assigned_value a))
 
 -- The lines of a document: one for the keys before the first header, and one for each header, with the keys up to the
 -- next.
-unfoldable pub leading : List Expression → List Member
+unfoldable pub leading : List TomlExpression → List TableMember
 leading [] = []
 leading (expression.Assignment a ∷ es) = written_member a ∷ leading es
 leading (expression.Header h ∷ es) = []
 
-abbrev pub header_end : Bool → List Member → PathEnd
+abbrev pub header_end : Bool → List TableMember → PathEnd
 header_end true members = path_end.Element members
 header_end false members = path_end.Table members
 
-abbrev pub header_line : Span → Header → List Member → Line
+abbrev pub header_line : Span → Header → List TableMember → Line
 header_line span h members = line_at span h.path (header_end h.is_array members)
 
-unfoldable pub header_lines : Span → List Expression → List Line
+unfoldable pub header_lines : Span → List TomlExpression → List Line
 header_lines span [] = []
 header_lines span (expression.Assignment a ∷ es) = header_lines span es
 header_lines span (expression.Header h ∷ es) = header_line span h (leading es) ∷ header_lines span es
 
-abbrev pub lines : Span → List Expression → List Line
+abbrev pub lines : Span → List TomlExpression → List Line
 lines span es = line_at span [] (path_end.Table (leading es)) ∷ header_lines span es
 
--- the value that a list of headers and assignments writes, in a text of this range
-abbrev pub tree : Span → List Expression → Value
+-- the value of headers and assignments, in a text with this span
+abbrev pub tree : Span → List TomlExpression → Value
 tree span es = table_value table_of (lines span es)

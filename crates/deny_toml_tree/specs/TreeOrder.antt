@@ -1,4 +1,4 @@
--- That the names of each table ascend.
+-- The names of each table of a tree ascend.
 use Rattle.std.specs.Prelude.{List, [], ◌∷◌, map}
 use Rattle.std.specs.Cmp.Lexicographic.{slice_cmp}
 use Rattle.std.specs.List.Sorted.{IsStrictlySortedBy}
@@ -15,7 +15,7 @@ abbrev pub NamesAscend : Table → Type 0
 NamesAscend t = IsStrictlySortedBy (slice_cmp nat_cmp) (map (λ e. e.0.name) (entries_in t))
 
 mutual
-  -- the names of a value's tables ascend, at any depth
+  -- the names of the tables of a value ascend, at any depth
   pub data IsOrderly : Value → Type 0 where
     value : (v : Value) → IsOrderlyLayer (layer_in v) → IsOrderly v
 

@@ -1,4 +1,4 @@
--- How definitions name the parts of a value and build one.
+-- The parts of a value, and values from their parts.
 use Rattle.std.specs.Prelude.{List}
 use Rattle.deny_base.specs.declared.span.Span.{Span}
 use Rattle.deny_toml_grammar.specs.declared.parts.Key.{Key}

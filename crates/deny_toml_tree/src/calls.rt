@@ -1,17 +1,22 @@
-//! What is asked of values and tables.
+//! The calls on values and tables.
 ghost use Rattle.std.specs.Prelude.{◌≡◌, ◌≤◌, ◌+◌, ◌-◌, ◌*◌, ◌<◌, ◌==◌, ◌∷◌, [], true, length, IfSome};
 ghost use Rattle.std.specs.Prelude.{IfNone, IfOk, IfErr, Some, None, is_some, nat_eq, position};
 ghost use Rattle.std.specs.Cmp.Lexicographic.{pointwise};
 ghost use Rattle.std.specs.Option.{option_copied, option_map};
 ghost use Rattle.deny_toml_tree.specs.Value.{entries_in};
+ghost use Rattle.deny_toml_tree.specs.Faults.{Reports, faults_of_kind};
 ghost use Rattle.deny_toml_tree.specs.Calls.{table_in, array_in, text_in, bool_in, integer_in, below_name, has_name};
 ghost use Rattle.deny_toml_tree.specs.private.Calls.{IsPast};
 ghost use Rattle.deny_toml_tree.specs.Calls.{below, layer_in, value_below, value_at_path, parts_of, is_decimal_digit};
 ghost use Rattle.deny_toml_tree.specs.Calls as spec;
 
+use crate::error::DeserError;
 use crate::value::{Content, Table, Value};
 use deny_base::Span;
-use deny_toml_grammar::{Key, Scalar};
+use deny_base_lists::Text;
+use deny_toml_grammar::{CowStr, Key, Scalar};
+use std::alloc::Global;
+use std::mem;
 
 impl<'t> Value<'t> {
     /// The table that this value is, if it is one.
@@ -44,8 +49,8 @@ impl<'t> Value<'t> {
         }
     }
 
-    /// Whether this value is a string on one line in which each byte stands for itself: no escape
-    /// stands there. Its text is then the bytes of its range.
+    /// Whether this value is a one-line string without escapes, so that its text is the bytes of
+    /// its span.
     pub fn is_verbatim(&self) -> bool
         ensures { result ≡ spec.is_verbatim self.now }
     {
@@ -85,8 +90,8 @@ impl<'t> Value<'t> {
         }
     }
 
-    /// The value at a path below this one, each part of which stands after a `/`: in a table the
-    /// name of a key, in an array a decimal index from 0. The empty path is this value itself.
+    /// The value at a path below this one, each part of which follows a `/`: in a table the name of
+    /// a key, in an array a decimal index from 0. The empty path is this value itself.
     pub fn pointer(&self, path: &str) -> Option<&Value<'t>>
         ensures { option_copied result ≡ value_at_path path.now self.now }
     {
@@ -103,6 +108,22 @@ impl<'t> Value<'t> {
         match first_part(path) {
             None => self.below(path),
             Some((part, rest)) => self.below(part)?.below_parts(rest),
+        }
+    }
+
+    /// Takes the string out of this value. A value of another kind is unchanged, and is the only
+    /// fault.
+    pub fn take_string(&mut self, alloc: Global) -> Result<Text, DeserError>
+        ensures ok { IfOk result (λ text. text_in self.old ≡ Some text) }
+        ensures faults { IfErr result (Reports (faults_of_kind self.old (text_in self.old))) }
+        ensures stays { text_in self.old ≡ None → self.new ≡ self.old }
+    {
+        match &mut self.content {
+            Content::Scalar(Scalar::Text(text) | Scalar::Multiline(text)) => {
+                let text = mem::replace(text, CowStr::borrowed(""));
+                Ok(text.into_text(alloc)?)
+            }
+            _ => Err(DeserError::wrong_kind(alloc, self.span)),
         }
     }
 
@@ -142,7 +163,7 @@ fn is_named(key: &Key<'_>, name: &[u8]) -> bool
     key.name.as_str().as_bytes() == name
 }
 
-/// Whether a range is so long.
+/// Whether a span has this length.
 fn is_so_long(span: Span, len: usize) -> bool
     ensures { result ≡ (span.start + len == span.end) }
 {
@@ -166,7 +187,7 @@ fn entry_at<'v, 't>(
     Some(&entries[index])
 }
 
-/// The part before the first `/`, and what follows it.
+/// The part before the first `/`, and the path after it.
 fn first_part(path: &[u8]) -> Option<(&[u8], &[u8])>
     ensures none { IfNone result (parts_of path.now ≡ path.now ∷ []) }
     ensures parts { IfSome result (λ split. parts_of path.now ≡ split.0.now ∷ parts_of split.1.now) }
@@ -211,7 +232,7 @@ fn digits_index(digits: &[u8], count: usize) -> Option<usize>
     Some(index)
 }
 
-/// The index after one digit more, if it is below `count`.
+/// The index after one more digit, if it is below `count`.
 fn next_index(index: usize, byte: u8, count: usize) -> Option<usize>
     ensures digit { IfSome result (λ next. is_decimal_digit byte ≡ true) }
     ensures next { IfSome result (λ next. next ≡ index * 10 + (byte - 48)) }

@@ -1,36 +1,37 @@
-//! The first clash of a document: a segment of a header or of a key that may not stand at its slot.
+//! The first clash of a document: a segment of a header or of a key that may not be at its slot.
 ghost use Rattle.std.specs.Prelude.{◌≡◌, ℕ, ◌+◌, ◌==◌, ◌&&◌, List, [], map, option_map};
 ghost use Rattle.std.specs.Prelude.{Option, Some, None, Result, OnOk, IfOk, if◌then◌else◌};
 ghost use Rattle.std.specs.Str.{bytes_eq};
-ghost use Rattle.deny_toml_tree.specs.Clash.{Segment, stand, walk, walk_header, walk_key};
+ghost use Rattle.deny_toml_tree.specs.Clash.{Segment, hold, walk, walk_header, walk_key};
 ghost use Rattle.deny_toml_tree.specs.Clash.{clash_in, first_of, member_line, clash_after, clash};
-ghost use Rattle.deny_toml_tree.specs.private.Slots.{Tells, Takes, TakesKey, Finds, occupant_at, occupant_after, admits};
+ghost use Rattle.deny_toml_tree.specs.private.Slots.{Reports, Takes, TakesKey, Finds, occupant_at, occupant_after};
+ghost use Rattle.deny_toml_tree.specs.private.Slots.{admits};
 ghost use Rattle.deny_toml_grammar.specs.Expression.{assigned_path, assigned_value};
 
 use deny_base::Span;
-use deny_lists::{List, NoMemory};
-use deny_toml_grammar::{Assignment, Expression, Header, Key, Written, WrittenContent};
+use deny_base_lists::{List, NoMemory};
+use deny_toml_grammar::{Assignment, Header, Key, TomlExpression, Written, WrittenContent};
 use std::alloc::Global;
 use std::collections::BTreeMap;
 
-/// What a segment does at its slot, which is a name in a table.
+/// The role of a segment at its slot, which is a name in a table.
 #[derive(Clone, Copy)]
 enum Role {
-    /// A header goes on from it.
+    /// A header that continues after it.
     HeaderPasses,
     /// `[table]` ends with it.
     HeaderNames,
     /// `[[array]]` ends with it.
     ArrayNames,
-    /// A key goes on from it.
+    /// A key that continues after it.
     KeyPasses,
     /// A key ends with it.
     KeySets,
 }
 
 impl Role {
-    /// Whether a segment with this role may stand at a slot.
-    fn may_stand(self, there: Option<Occupant>) -> bool
+    /// Whether a segment with this role may be at a slot.
+    fn may_duplicate(self, there: Option<Occupant>) -> bool
         ensures { result ≡ admits self (option_map (λ s. s.role) there) }
     {
         let Some(occupant) = there else {
@@ -46,17 +47,17 @@ impl Role {
     }
 }
 
-/// What stands at a slot.
+/// The occupant of a slot: what the segments there have made.
 #[derive(Clone, Copy)]
 struct Occupant {
-    /// The role that decides what it is: the last that is not `HeaderPasses`, if there is one.
+    /// The role that decides: the last that is not `HeaderPasses`, if there is one.
     role: Role,
     /// The number of the segment that made the table, or the last table of the array.
     table: u64,
 }
 
 impl Occupant {
-    /// What stands at a slot where this stood, after a segment of this number more.
+    /// The occupant of a slot after one more segment with this number.
     fn after(there: Option<Occupant>, role: Role, number: u64) -> Occupant
         ensures { result ≡ occupant_after there role number }
     {
@@ -90,14 +91,14 @@ struct Slot<'n> {
 
 const ROOT: u64 = 0;
 
-/// What stands at each slot, after so many segments.
+/// The occupant of each slot, and the number of segments.
 #[derive(Drop)]
 struct Slots<'n> {
     occupants: BTreeMap<Slot<'n>, Occupant>,
     segments: u64,
 }
 
-/// Why a document is not found to be free of clashes.
+/// Why the check of a document ended early.
 #[derive(Drop)]
 enum Refusal {
     Clash(Span),
@@ -117,7 +118,7 @@ impl From<NoMemory> for Refusal {
 
 impl<'n> Slots<'n> {
     fn new(alloc: Global) -> Slots<'n>
-        ensures { Tells result [] }
+        ensures { Reports result [] }
     {
         Slots {
             occupants: BTreeMap::new(alloc),
@@ -141,20 +142,20 @@ impl<'n> Slots<'n> {
         Ok(())
     }
 
-    /// Gives a segment its slot in a table. The answer is the number of the table there.
+    /// Puts a segment at its slot in a table, and returns the number of the table there.
     fn take(&mut self, table: u64, key: &'n Key<'_>, role: Role) -> Result<u64, Refusal>
-        ensures { (before : List Segment) → Tells self.old before
-            → Takes result self.new (stand before table role key.now) }
+        ensures { (before : List Segment) → Reports self.old before
+            → Takes result self.new (hold before table role key.now) }
     {
         let slot = Slot {
             table,
             name: key.name.as_str(),
         };
         let there = self.at(slot);
-        if !role.may_stand(there) {
+        if !role.may_duplicate(there) {
             return Err(Refusal::Clash(key.span));
         }
-        // More segments than a number counts are more than memory holds.
+        // More segments than a `u64` counts do not fit into memory.
         let number = self.segments.checked_add(1).ok_or(NoMemory)?;
         let occupant = Occupant::after(there, role, number);
         self.put(slot, occupant)?;
@@ -162,8 +163,8 @@ impl<'n> Slots<'n> {
         Ok(occupant.table)
     }
 
-    /// Gives the segments of a path their slots from a table on. The last one has a role of its
-    /// own. The answer is the number of the table that the path leads to.
+    /// Puts the segments of a path at their slots, beginning in a table. The last one has a role of
+    /// its own. Returns the number of the table that the path leads to.
     fn take_path(
         &mut self,
         from: u64,
@@ -171,7 +172,7 @@ impl<'n> Slots<'n> {
         passing: Role,
         last: Role,
     ) -> Result<u64, Refusal>
-        ensures { (before : List Segment) → Tells self.old before
+        ensures { (before : List Segment) → Reports self.old before
             → Takes result self.new (walk before from passing last path.now) }
     {
         let mut table = from;
@@ -186,9 +187,9 @@ impl<'n> Slots<'n> {
         Ok(table)
     }
 
-    /// Gives the segments of a header their slots. The answer is the number of its table.
+    /// Puts the segments of a header at their slots, and returns the number of its table.
     fn take_header(&mut self, header: &'n Header<'_>) -> Result<u64, Refusal>
-        ensures { (before : List Segment) → Tells self.old before
+        ensures { (before : List Segment) → Reports self.old before
             → Takes result self.new (walk_header before header.now) }
     {
         let last = if header.is_array {
@@ -200,7 +201,7 @@ impl<'n> Slots<'n> {
     }
 }
 
-/// Gives the segments of a key their slots in a table, and looks for clashes in its value.
+/// Puts the segments of a key at their slots in a table, and checks its value.
 #[cycle(clashes)]
 fn take_key<'n>(
     alloc: Global,
@@ -208,7 +209,7 @@ fn take_key<'n>(
     table: u64,
     key: &'n Assignment<'_>,
 ) -> Result<(), Refusal>
-    ensures { (before : List Segment) → Tells slots.old before
+    ensures { (before : List Segment) → Reports slots.old before
         → TakesKey result slots.new (walk_key before table (assigned_path key.now))
         (clash_in (assigned_value key.now)) }
 {
@@ -216,7 +217,7 @@ fn take_key<'n>(
     check_value(alloc, &key.value)
 }
 
-/// Looks for clashes in the inline tables of a value.
+/// Checks the inline tables of a value for clashes.
 #[cycle(clashes)]
 fn check_value(alloc: Global, value: &Written<'_>) -> Result<(), Refusal>
     ensures { Finds result (clash_in value.now) }
@@ -238,7 +239,7 @@ fn check_elements(alloc: Global, elements: &[Written<'_>]) -> Result<(), Refusal
     Ok(())
 }
 
-/// Looks for clashes in an inline table, whose keys meet no others.
+/// Checks an inline table for clashes. Its keys meet no keys outside it.
 #[cycle(clashes)]
 fn check_members(alloc: Global, members: &[Assignment<'_>]) -> Result<(), Refusal>
     ensures { Finds result (clash_after [] 0 (map member_line members.now)) }
@@ -250,15 +251,15 @@ fn check_members(alloc: Global, members: &[Assignment<'_>]) -> Result<(), Refusa
     Ok(())
 }
 
-fn check_expressions(alloc: Global, expressions: &[Expression<'_>]) -> Result<(), Refusal>
+fn check_expressions(alloc: Global, expressions: &[TomlExpression<'_>]) -> Result<(), Refusal>
     ensures { Finds result (clash expressions.now) }
 {
     let mut slots = Slots::new(alloc);
     let mut table = ROOT;
     for expression in expressions {
         match expression {
-            Expression::Header(header) => table = slots.take_header(header)?,
-            Expression::Assignment(key) => take_key(alloc, &mut slots, table, key)?,
+            TomlExpression::Header(header) => table = slots.take_header(header)?,
+            TomlExpression::Assignment(key) => take_key(alloc, &mut slots, table, key)?,
         }
     }
     Ok(())
@@ -267,7 +268,7 @@ fn check_expressions(alloc: Global, expressions: &[Expression<'_>]) -> Result<()
 /// The span of the first segment that clashes, if there is one.
 pub fn first_clash(
     alloc: Global,
-    expressions: &List<Expression<'_>>,
+    expressions: &List<TomlExpression<'_>>,
 ) -> Result<Option<Span>, NoMemory>
     ensures exact { IfOk result (λ found. found ≡ clash expressions.now) }
 {

@@ -1,9 +1,9 @@
-//! Values and where they stand.
+//! Values and their spans.
 use deny_base::Span;
-use deny_lists::List;
+use deny_base_lists::List;
 use deny_toml_grammar::{Key, Scalar};
 
-/// A value and where it stands.
+/// A value and its span.
 #[cycle(value)]
 #[derive(Drop)]
 pub struct Value<'t> {
@@ -11,7 +11,7 @@ pub struct Value<'t> {
     pub content: Content<'t>,
 }
 
-/// What a value is.
+/// The content of a value.
 #[cycle(value)]
 #[derive(Drop)]
 pub enum Content<'t> {

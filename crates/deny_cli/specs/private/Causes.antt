@@ -1,39 +1,38 @@
 -- Stops on the way of a run.
 use Rattle.std.specs.Prelude.{◌≡◌, ℕ, ◌^◌, List, IfSome}
 use Rattle.std.specs.Prelude.{⊤}
-use Rattle.deny_outside.specs.Count.{RoseBy}
-use Rattle.deny_outside.specs.Disk.{Disk, FailedAt, bytes_at}
+use Rattle.deny_base_disk.specs.Count.{RoseBy}
+use Rattle.deny_base_disk.specs.Disk.{Disk, FailedAt, bytes_at}
 use Rattle.deny_base.specs.declared.check.Which.{Which}
-use Rattle.deny_outside.specs.declared.disk.Call.TheVariants as call
-use Rattle.deny_outside.specs.declared.read.ReadEnd.{ReadEnd}
-use Rattle.deny_outside.specs.declared.read.ReadEnd.TheVariants as end
+use Rattle.deny_base_disk.specs.declared.disk.Call.TheVariants as call
+use Rattle.deny_base_disk.specs.declared.read.ReadEnd.{ReadEnd}
+use Rattle.deny_base_disk.specs.declared.read.ReadEnd.TheVariants as end
 use Rattle.deny_gate.specs.Gating.{IsCause}
-use Rattle.deny_gate.specs.Gating.{Texts}
+use Rattle.deny_gate.specs.Gating.{InputTexts}
 use Rattle.deny_gate.specs.Labels.{IsLabelledCause}
-use Rattle.deny_gate.specs.declared.report.GateError.TheVariants as gate
-use Rattle.deny_cli.specs.Words.{Command, IsAccepted, IsUsageAt}
+use Rattle.deny_cli.specs.Arguments.{Command, IsAccepted, IsUsageAt}
 use Rattle.deny_cli.specs.declared.outcome.Outcome.{Outcome}
 use Rattle.deny_cli.specs.declared.outcome.Outcome.TheVariants.{Done, Usage, Read, Long, Gate, Write, Memory}
 use Rattle.deny_cli.specs.Causes.{IsLong, IsStopAt, IsFaultAt, IsLongAt, IsStopOn, IsReadFault, IsLongOn}
 
--- the same of a run that stopped before its output was made, which is neither done nor written
-abbrev pub StopsWords : Disk → Disk → List (List ℕ) → Outcome → Type 0
-StopsWords old new words (Done report) = ⊥
-StopsWords old new words (Usage at) = IsUsageAt words at
-StopsWords old new words (Read which) = IsReadFault old new words which
-StopsWords old new words (Long which) = IsLongOn old new words which
-StopsWords old new words (Gate error) = IsStopOn old words error
-StopsWords old new words (Write report) = ⊥
-StopsWords old new words Memory = IsAccepted words
+-- the cause of a run that stopped before its output was made, and so is neither done nor failed to write
+abbrev pub StopsRun : Disk → Disk → List (List ℕ) → Outcome → Type 0
+StopsRun old new arguments (Done report) = ⊥
+StopsRun old new arguments (Usage at) = IsUsageAt arguments at
+StopsRun old new arguments (Read which) = IsReadFault old new arguments which
+StopsRun old new arguments (Long which) = IsLongOn old new arguments which
+StopsRun old new arguments (Gate error) = IsStopOn old arguments error
+StopsRun old new arguments (Write report) = ⊥
+StopsRun old new arguments Memory = IsAccepted arguments
 
--- how a text that was not read to its end stops a run
+-- the stop of an input that was not read to its end
 abbrev pub end_stop : Which → ReadEnd → Outcome
 end_stop which end.Fault = Read which
 end_stop which end.Long = Long which
 end_stop which end.Memory = Memory
 
--- reading the text at a path stops a run so: it failed, or gave the bytes of a long text; where the disk tells its
--- files, such a text stands there
+-- reading an input at a path stops a run: it failed, or gave the bytes of a long text; where the disk tells its files,
+-- such a text is there
 abbrev pub IsReadStop : Disk → Disk → Which → List ℕ → Outcome → Type 0
 IsReadStop old new which path (Done report) = ⊥
 IsReadStop old new which path (Usage at) = ⊥
@@ -44,8 +43,8 @@ IsReadStop old new which path (Gate error) = ⊥
 IsReadStop old new which path (Write report) = ⊥
 IsReadStop old new which path Memory = ⊤
 
--- the gate stops a run so
-abbrev pub IsGateStop : Texts → Outcome → Type 0
+-- the gate stops a run by this outcome
+abbrev pub IsGateStop : InputTexts → Outcome → Type 0
 IsGateStop texts (Done report) = ⊥
 IsGateStop texts (Usage at) = ⊥
 IsGateStop texts (Read which) = ⊥
@@ -54,7 +53,7 @@ IsGateStop texts (Gate error) = IsCause texts error × IsLabelledCause texts.pol
 IsGateStop texts (Write report) = ⊥
 IsGateStop texts Memory = ⊥
 
--- why a run on a command stopped before its output was made; this is the policy's text, where it was read
+-- the cause why a run of a command stopped before its output was made; the text is the policy's, where it was read
 abbrev pub StopsCommand : Disk → Disk → Command → Outcome → List ℕ → Type 0
 StopsCommand old new command (Done report) text = ⊥
 StopsCommand old new command (Usage at) text = ⊥

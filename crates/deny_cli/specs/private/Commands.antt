@@ -1,46 +1,46 @@
--- What contracts see of the commands that words are read to.
+-- Commands as contracts see them.
 use Rattle.std.specs.Prelude.{ℕ, List, option_map}
 use Rattle.std.specs.Borrow.{Bor}
-use Rattle.deny_workspace.specs.declared.registries.Registry.{Registry}
+use Rattle.deny_spans_workspace.specs.declared.registries.Registry.{Registry}
 use Rattle.deny_cli.specs.Registries.{registries_in}
-use Rattle.deny_cli.specs.Words as word
-use Rattle.deny_cli.specs.declared.registries.Named.{Named}
-use Rattle.deny_cli.specs.declared.words.Asked.{Asked}
-use Rattle.deny_cli.specs.declared.words.AskedSoFar.{AskedSoFar}
-use Rattle.deny_cli.specs.declared.words.Command.{Command}
-use Rattle.deny_cli.specs.declared.words.Command.TheVariants.{Check, Generate}
-use Rattle.deny_cli.specs.declared.words.Form.{Form}
-use Rattle.deny_cli.specs.declared.words.Form.TheVariants.{Nothing, Checking, Generating}
+use Rattle.deny_cli.specs.Arguments as argument
+use Rattle.deny_cli.specs.declared.registries.RegistryOption.{RegistryOption}
+use Rattle.deny_cli.specs.declared.arguments.CheckArguments.{CheckArguments}
+use Rattle.deny_cli.specs.declared.arguments.PartialArguments.{PartialArguments}
+use Rattle.deny_cli.specs.declared.arguments.Command.{Command}
+use Rattle.deny_cli.specs.declared.arguments.Command.TheVariants.{Check, Generate}
+use Rattle.deny_cli.specs.declared.arguments.Form.{Form}
+use Rattle.deny_cli.specs.declared.arguments.Form.TheVariants.{Nothing, Checking, Generating}
 
 abbrev pub text_view : Bor (List ℕ) → List ℕ
 text_view text = text.now
 
-abbrev pub named_view : Named → Registry
-named_view named = record { name = named.name.now; address = named.address.now }
+abbrev pub registry_view : RegistryOption → Registry
+registry_view named = record { name = named.name.now; address = named.address.now }
 
--- its registries are those that options among its words name
-abbrev pub asked_view : Asked → word.Asked
-asked_view asked = record {
+-- the arguments of a check; its registries are those that options among them name
+abbrev pub check_view : CheckArguments → argument.CheckArguments
+check_view asked = record {
   policy = asked.policy.now;
   metadata = asked.metadata.now;
   replacements = option_map text_view asked.replacements;
   home = option_map text_view asked.home;
-  registries = registries_in (word.texts asked.words.now);
+  registries = registries_in (argument.texts asked.arguments.now);
 }
 
-abbrev pub command_view : Command → word.Command
-command_view (Check asked) = word.check (asked_view asked)
-command_view (Generate crates) = word.generate crates
+abbrev pub command_view : Command → argument.Command
+command_view (Check asked) = argument.check (check_view asked)
+command_view (Generate crates) = argument.generate crates
 
-abbrev pub so_far_view : AskedSoFar → word.AskedSoFar
-so_far_view asked = record {
+abbrev pub partial_view : PartialArguments → argument.PartialArguments
+partial_view asked = record {
   policy = option_map text_view asked.policy;
   metadata = option_map text_view asked.metadata;
   replacements = option_map text_view asked.replacements;
   home = option_map text_view asked.home;
 }
 
-abbrev pub form_view : Form → word.Form
-form_view Nothing = word.nothing
-form_view (Checking asked) = word.checking (so_far_view asked)
-form_view (Generating crates) = word.generating crates
+abbrev pub form_view : Form → argument.Form
+form_view Nothing = argument.nothing
+form_view (Checking asked) = argument.checking (partial_view asked)
+form_view (Generating crates) = argument.generating crates

@@ -1,13 +1,13 @@
--- Dead entries while they are gathered.
+-- Dead entries as they are gathered.
 use Rattle.std.specs.Prelude.{Bool, List, Option, None, Some, option_and_then, if◌then◌else◌}
 use Rattle.std.specs.List.{list_any}
 use Rattle.std.specs.Ordering.{eq_by_cmp}
 use Rattle.deny_base.specs.Entry.{entry_cmp}
 use Rattle.deny_base.specs.declared.entry.EntryId.{EntryId}
 use Rattle.deny_base.specs.declared.key.Key.{Key}
-use Rattle.deny_laws.specs.Dead.{unused_entry}
+use Rattle.deny_spec_removal.specs.Dead.{unused_entry}
 
--- an entry is one of these
+-- an entry is in the list
 unfoldable pub is_among : List EntryId → EntryId → Bool
 is_among entries e = list_any (λ other. eq_by_cmp entry_cmp other e) entries
 

@@ -1,7 +1,7 @@
--- Hits while they are gathered.
+-- Hits as they are gathered.
 use Rattle.std.specs.Prelude.{◌≡◌, List, Contains}
 use Rattle.deny_base.specs.declared.entry.Hit.{Hit}
 
--- two hits of one entry are one hit
+-- two hits of the same entry are equal
 abbrev pub IsOneEach : List Hit → Type 0
 IsOneEach hits = (one other : Hit) → Contains hits one → Contains hits other → one.entry ≡ other.entry → one ≡ other

@@ -1,95 +1,98 @@
--- The ranges of a policy that labels mark.
+-- The spans of a policy that labels mark.
 use Rattle.std.specs.Prelude.{◌++◌, ◌∷◌, [], ℕ, List, Option, None, Some, Contains, filter, map, not}
 use Rattle.std.specs.List.{flat_map}
 use Rattle.deny_base.specs.declared.span.Span.{Span}
-use Rattle.deny_build_model.specs.Building.{AllowedPath, Building, Bypass, ScriptGlob}
+use Rattle.deny_spec.specs.Building.{AllowedPath, Building, Bypass, ScriptGlob}
 use Rattle.deny_base.specs.declared.span.Spanned.{Spanned}
-use Rattle.deny_lock.specs.Text.{IsLineOf, LinesAscend, lock_span_at, lock_text}
-use Rattle.deny_model.specs.Graph.{Crate, Graph}
-use Rattle.deny_model.specs.Licensing.{Licensing}
-use Rattle.deny_model.specs.Policy.{Ban, Entry, FeatureEntry, Policy, Replacing, Root, Words}
+use Rattle.deny_krates_lock.specs.Text.{IsLineOf, LinesAscend, lock_span_at, lock_text}
+use Rattle.deny_spec.specs.Graph.{Crate, Graph}
+use Rattle.deny_spec.specs.Licensing.{Licensing}
+use Rattle.deny_spec.specs.Policy.{AllowEntry, Ban, Entry, FeatureEntry, Policy, Replacing, Root, SpannedText}
 
--- the line of each crate stands in the lock text, one behind the other
+-- the line of each crate is in the lock text, one behind the other
 pub record AreLockLines (g : Graph) : Type 0 where
   pub each : (c : Crate) → Contains g.crates c → IsLineOf (lock_text g.crates) c (lock_span_at g.crates c)
   pub ascend : LinesAscend g.crates
 
-abbrev pub range_of : Option Words → List Span
-range_of None = []
-range_of (Some words) = words.span ∷ []
+abbrev pub span_of : Option SpannedText → List Span
+span_of None = []
+span_of (Some words) = words.span ∷ []
 
-unfoldable pub ban_ranges : Ban → List Span
-ban_ranges ban = ban.spec.range ∷ (map (λ w. w.span) ban.wrappers ++ (range_of ban.reason ++ range_of ban.use_instead))
+unfoldable pub ban_spans : Ban → List Span
+ban_spans ban = ban.spec.span ∷ (map (λ w. w.span) ban.wrappers ++ (span_of ban.reason ++ span_of ban.use_instead))
 
-unfoldable pub entry_ranges : Entry → List Span
-entry_ranges e = e.spec.range ∷ range_of e.reason
+unfoldable pub allow_spans : AllowEntry → List Span
+allow_spans e = e.spec.span ∷ span_of e.reason
 
-unfoldable pub root_ranges : Root → List Span
-root_ranges t = t.spec.range ∷ range_of t.reason
+unfoldable pub entry_spans : Entry → List Span
+entry_spans e = e.spec.span ∷ span_of e.reason
 
--- of the entries that pass replaced crates over
-abbrev pub ignore_ranges : Option Replacing → List Span
-ignore_ranges None = []
-ignore_ranges (Some r) = flat_map entry_ranges r.ignore
+unfoldable pub root_spans : Root → List Span
+root_spans t = t.spec.span ∷ span_of t.reason
 
--- of an entry of `features` its list `allow`, its flag `exact` and the features that it names
-unfoldable pub feature_ranges : FeatureEntry → List Span
-feature_ranges e = e.allow.span ∷ e.exact.span ∷ (map (λ w. w.span) e.allow.value ++ map (λ w. w.span) e.deny)
+-- the spans of the entries that ignore replaced crates
+abbrev pub ignore_spans : Option Replacing → List Span
+ignore_spans None = []
+ignore_spans (Some r) = flat_map entry_spans r.ignore
 
--- of a level of default features
-abbrev pub own_range : {T : Type 0} → Option (Spanned T) → List Span
-own_range None = []
-own_range (Some at) = at.span ∷ []
+-- the spans of an entry of `features`: its list `allow`, its flag `exact` and the features that it names
+unfoldable pub features_spans : FeatureEntry → List Span
+features_spans e = e.allow.span ∷ e.exact.span ∷ (map (λ w. w.span) e.allow.value ++ map (λ w. w.span) e.deny)
 
-abbrev pub level_ranges : Policy → List Span
-level_ranges p = own_range p.workspace_default ++ own_range p.external_default
+-- the span of a level of default features
+abbrev pub own_span : {T : Type 0} → Option (Spanned T) → List Span
+own_span None = []
+own_span (Some at) = at.span ∷ []
 
-unfoldable pub ranges_of : Policy → List Span
-ranges_of p = flat_map ban_ranges p.deny
-    ++ (flat_map entry_ranges p.allow
-    ++ (flat_map entry_ranges p.skip
-    ++ (flat_map root_ranges p.skip_tree
-    ++ (ignore_ranges p.replacing ++ (flat_map feature_ranges p.features ++ level_ranges p)))))
+abbrev pub level_spans : Policy → List Span
+level_spans p = own_span p.workspace_default ++ own_span p.external_default
 
--- of what a policy says of builds: its crates, checksums, features, globs and paths, the globs of scripts that it
--- writes, and the older key for it
-abbrev pub sum_range : Option (Spanned (List ℕ)) → List Span
-sum_range None = []
-sum_range (Some sum) = sum.span ∷ []
+unfoldable pub spans_of : Policy → List Span
+spans_of p = flat_map ban_spans p.deny
+    ++ (flat_map allow_spans p.allow
+    ++ (flat_map entry_spans p.skip
+    ++ (flat_map root_spans p.skip_tree
+    ++ (ignore_spans p.replacing ++ (flat_map features_spans p.features ++ level_spans p)))))
 
-unfoldable pub path_ranges : AllowedPath → List Span
-path_ranges a = a.path.span ∷ sum_range a.checksum
+-- the spans of what a policy says of builds: its crates, checksums, features, globs and paths, the globs of scripts
+-- that it writes, and the older key for it
+abbrev pub sum_span : Option (Spanned (List ℕ)) → List Span
+sum_span None = []
+sum_span (Some sum) = sum.span ∷ []
 
-unfoldable pub bypass_ranges : Bypass → List Span
-bypass_ranges y = y.spec.range
-    ∷ (sum_range y.script
-    ++ (map (λ w. w.span) y.required ++ (map (λ w. w.span) y.globs ++ flat_map path_ranges y.allow)))
+unfoldable pub path_spans : AllowedPath → List Span
+path_spans a = a.path.span ∷ sum_span a.checksum
 
--- of the globs of scripts those that a policy writes, and those that are built in
+unfoldable pub bypass_spans : Bypass → List Span
+bypass_spans y = y.spec.span
+    ∷ (sum_span y.script
+    ++ (map (λ w. w.span) y.required ++ (map (λ w. w.span) y.globs ++ flat_map path_spans y.allow)))
+
+-- the globs of scripts that a policy writes, without those that are built in
 abbrev pub written_globs : Building → List ScriptGlob
 written_globs b = filter (λ e. not e.built_in) b.extensions
 
 abbrev pub built_in_globs : Building → List ScriptGlob
 built_in_globs b = filter (λ e. e.built_in) b.extensions
 
-abbrev pub older_range : Option Span → List Span
-older_range None = []
-older_range (Some range) = range ∷ []
+abbrev pub older_span : Option Span → List Span
+older_span None = []
+older_span (Some span) = span ∷ []
 
-unfoldable pub building_ranges : Building → List Span
-building_ranges b = flat_map bypass_ranges b.bypass
-    ++ (map (λ e. e.range) (written_globs b) ++ older_range b.older_key)
+unfoldable pub building_spans : Building → List Span
+building_spans b = flat_map bypass_spans b.bypass
+    ++ (map (λ e. e.span) (written_globs b) ++ older_span b.older_key)
 
-abbrev pub build_ranges : Option Building → List Span
-build_ranges None = []
-build_ranges (Some b) = building_ranges b
+abbrev pub build_spans : Option Building → List Span
+build_spans None = []
+build_spans (Some b) = building_spans b
 
--- those in the file of the built-in globs
-abbrev pub built_in_ranges : Option Building → List Span
-built_in_ranges None = []
-built_in_ranges (Some b) = map (λ e. e.range) (built_in_globs b)
+-- the spans in the file of the built-in globs
+abbrev pub built_in_spans : Option Building → List Span
+built_in_spans None = []
+built_in_spans (Some b) = map (λ e. e.span) (built_in_globs b)
 
--- of what a policy says of licences: those that every crate may ask for, and the names of exceptions
-abbrev pub licence_ranges : Option Licensing → List Span
-licence_ranges None = []
-licence_ranges (Some l) = map (λ a. a.span) l.allow ++ map (λ e. e.spec.range) l.exceptions
+-- the spans of what a policy says of licences: the licences that every crate may have, and the names of exceptions
+abbrev pub licence_spans : Option Licensing → List Span
+licence_spans None = []
+licence_spans (Some l) = map (λ a. a.span) l.allow ++ map (λ e. e.spec.span) l.exceptions

@@ -1,4 +1,4 @@
--- Findings as a report tells them.
+-- Findings as they are taken from packs.
 use Rattle.std.specs.Prelude.{List, Option, map}
 use Rattle.deny_base.specs.declared.check.Check.{Check}
 use Rattle.deny_base.specs.declared.finding.Diag.{Diag}

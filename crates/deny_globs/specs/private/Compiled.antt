@@ -1,8 +1,8 @@
--- Programs while patterns are compiled: what stands for tokens, and what a pattern adds.
+-- Programs while patterns are compiled: the states for tokens, and those that a pattern adds.
 use Rattle.std.specs.Prelude.{ℕ, ◌≡◌, ◌+◌, ◌<◌, ◌≤◌, ◌⊎◌, ◌↔◌, List, [], ◌∷◌, ◌++◌, length}
 use Rattle.deny_globs.specs.declared.token.Token.{Token}
-use Rattle.deny_globs.specs.declared.state.State.{State}
-use Rattle.deny_globs.specs.declared.state.State.TheVariants.{End}
+use Rattle.deny_globs.specs.declared.state.GlobState.{GlobState}
+use Rattle.deny_globs.specs.declared.state.GlobState.TheVariants.{End}
 use Rattle.deny_globs.specs.Fits.{Fits}
 use Rattle.deny_globs.specs.Patterns.{Pattern, characters_of, tokens_of}
 use Rattle.deny_globs.specs.declared.starts.Starts.{Starts}
@@ -12,57 +12,60 @@ use Rattle.deny_globs.specs.States.{Leads}
 use Rattle.deny_globs.specs.private.Sizes.{states_of, states_of_all}
 use Rattle.deny_globs.specs.Compiled.{IsProgram}
 
--- states have come behind the old ones
-pub record Grows (old new : List State) : Type 0 where
-  pub more : List State
+-- States were appended to the old ones.
+pub record Grows (old new : List GlobState) : Type 0 where
+  pub more : List GlobState
   pub whole : new ≡ old ++ more
 
-pub record IsPushed (state : State) (old new : List State) (number : ℕ) : Type 0 where
+pub record IsPushed (state : GlobState) (old new : List GlobState) (number : ℕ) : Type 0 where
   pub is_last : number ≡ length old
   pub whole : new ≡ old ++ state ∷ []
 
 -- exactly texts of these tokens lead from the state to the end of the glob
-abbrev pub StandsFor : List State → ℕ → ℕ → List Token → Type 0
-StandsFor states glob number tokens = (cs : List ℕ) → Leads states glob number cs ↔ Fits tokens cs
+abbrev pub Represents : List GlobState → ℕ → ℕ → List Token → Type 0
+Represents states glob number tokens = (cs : List ℕ) → Leads states glob number cs ↔ Fits tokens cs
 
--- one of the alternatives fits, with the tokens behind it
+-- one of the alternatives fits, with the tokens after it
 pub data OneFits (rest : List Token) : List (List Token) → List ℕ → Type 0 where
   the_first : {tokens : List Token} {others : List (List Token)} {cs : List ℕ} → Fits (tokens ++ rest) cs
       → OneFits rest (tokens ∷ others) cs
   another : {tokens : List Token} {others : List (List Token)} {cs : List ℕ} → OneFits rest others cs
       → OneFits rest (tokens ∷ others) cs
 
--- the states have grown to a program in which the start stands for the tokens before the next state
-pub record IsBuilt (tokens : List Token) (next : ℕ) (old new : List State) (start : ℕ) : Type 0 where
+-- The states have grown to a program in which the start stands for the tokens before the next state.
+pub record IsBuilt (tokens : List Token) (next : ℕ) (old new : List GlobState) (start : ℕ) : Type 0 where
   pub grows : Grows old new
   pub program : IsProgram new
   pub in_range : start < length new
-  pub stands : (glob : ℕ) (rest : List Token) → StandsFor old glob next rest → StandsFor new glob start (tokens ++ rest)
+  pub holds : (glob : ℕ) (rest : List Token) → Represents old glob next rest
+      → Represents new glob start (tokens ++ rest)
   pub size : length new ≤ length old + states_of tokens
 
--- and one in which the start stands for one of the alternatives before the next state
-pub record IsBuiltOver (alternatives : List (List Token)) (next : ℕ) (old new : List State) (start : ℕ) : Type 0 where
+-- The states have grown to a program in which the start stands for one of the alternatives before the next state.
+pub record IsBuiltOver (alternatives : List (List Token)) (next : ℕ) (old new : List GlobState)
+    (start : ℕ) : Type 0 where
   pub grows : Grows old new
   pub program : IsProgram new
   pub in_range : start < length new
-  pub stands : (glob : ℕ) (rest : List Token) → StandsFor old glob next rest → (cs : List ℕ)
+  pub holds : (glob : ℕ) (rest : List Token) → Represents old glob next rest → (cs : List ℕ)
       → Leads new glob start cs ↔ OneFits rest alternatives cs
   pub size : length new ≤ length old + states_of_all alternatives
 
--- and one in which the start stands for the tokens before the next state, and for what others stand for
-pub record IsBuiltBeside (tokens : List Token) (next others : ℕ) (old new : List State) (start : ℕ) : Type 0 where
+-- The states have grown to a program in which the start stands for the tokens before the next state, or for the other
+-- state.
+pub record IsBuiltBeside (tokens : List Token) (next others : ℕ) (old new : List GlobState) (start : ℕ) : Type 0 where
   pub grows : Grows old new
   pub program : IsProgram new
   pub in_range : start < length new
-  pub stands : (glob : ℕ) (rest : List Token) → StandsFor old glob next rest →
+  pub holds : (glob : ℕ) (rest : List Token) → Represents old glob next rest →
       (cs : List ℕ) → Leads new glob start cs ↔ (Leads old glob others cs ⊎ Fits (tokens ++ rest) cs)
   pub size : length new ≤ length old + (states_of tokens + 1)
 
--- states have come that stand for the glob, and the state at which it starts
-pub record AddsStates (glob : Pattern) (number : ℕ) (old : List State) (starts : Starts) (new : List State)
+-- States were added that stand for the glob, with the state at which it starts.
+pub record AddsStates (glob : Pattern) (number : ℕ) (old : List GlobState) (starts : Starts) (new : List GlobState)
     (starts' : Starts) : Type 0 where
   pub is_glob : IsGlob (characters_of glob) (tokens_of glob)
-  pub mid : List State
+  pub mid : List GlobState
   pub end : ℕ
   pub pushed : IsPushed (End number) old mid end
   pub start : ℕ

@@ -1,29 +1,29 @@
 -- The states that are marked at one index.
 use Rattle.std.specs.Prelude.{ℕ, suc, ◌≡◌, ◌⊎◌, ◌↔◌, List, [], ◌∷◌, ◌++◌, length, Bool, true, false, Contains, get_or}
 
--- how many marks there are
+-- the number of marks
 abbrev pub marks_in : List Bool → ℕ
 marks_in [] = 0
 marks_in (true ∷ marks) = suc (marks_in marks)
 marks_in (false ∷ marks) = marks_in marks
 
--- the order lists exactly the states with a mark, each once
+-- The order lists exactly the states with a mark, each once.
 pub record IsMarked (order : List ℕ) (marks : List Bool) : Type 0 where
   pub each : (number : ℕ) → Contains order number ↔ (get_or marks number false ≡ true)
   pub once : length order ≡ marks_in marks
 
--- states may have come at the end
+-- States may have been appended.
 pub record Extends (old new : List ℕ) : Type 0 where
   pub more : List ℕ
   pub whole : new ≡ old ++ more
 
--- the state is marked, and no other has come
+-- The state is marked, and no other was added.
 pub record Marks (number : ℕ) (old new : List ℕ) : Type 0 where
   pub extends : Extends old new
   pub is_there : Contains new number
   pub only : (other : ℕ) → Contains new other → Contains old other ⊎ (other ≡ number)
 
--- the state is marked where the test holds, and no other has come
+-- The state is marked where the test holds, and no other was added.
 pub record MarksIf (test : Bool) (number : ℕ) (old new : List ℕ) : Type 0 where
   pub extends : Extends old new
   pub is_there : test ≡ true → Contains new number

@@ -1,4 +1,4 @@
--- Reading on by a piece, with the innermost open brace first.
+-- A reading with one more piece, with the innermost open brace first.
 use Rattle.std.specs.Prelude.{ℕ, ◌≡◌, ◌<◌, ◌⊎◌, List, [], ◌∷◌, ◌++◌, length, reverse, drop, Option, Some, None, nat_lt}
 use Rattle.std.specs.Prelude.{if◌then◌else◌}
 use Rattle.deny_globs.specs.declared.token.Token.{Token}
@@ -7,33 +7,33 @@ use Rattle.deny_globs.specs.declared.piece.Piece.{Piece}
 use Rattle.deny_globs.specs.declared.piece.Piece.TheVariants.{Token as Whole, Middle, Open, Comma, Close}
 use Rattle.deny_globs.specs.declared.stop.Stop.{Stop}
 use Rattle.deny_globs.specs.declared.stop.Stop.TheVariants.{Fault, Memory}
-use Rattle.deny_globs.specs.declared.reading.Opened.{Opened}
-use Rattle.deny_globs.specs.declared.reading.Reading.{Reading}
+use Rattle.deny_globs.specs.declared.reading.OpenBrace.{OpenBrace}
+use Rattle.deny_globs.specs.declared.reading.GlobReading.{GlobReading}
 use Rattle.deny_globs.specs.Characters.{slash, comma}
 use Rattle.deny_globs.specs.Faults.{FirstFault}
 use Rattle.deny_globs.specs.private.Steps.{IsPieceOf, IsStop}
 use Rattle.deny_globs.specs.Tree.{most_braces}
 
--- the same with the innermost brace first
-abbrev pub inner_first : Reading → Reading
+-- a reading with the innermost brace first
+abbrev pub inner_first : GlobReading → GlobReading
 inner_first reading = record { opened = reverse reading.opened; tokens = reading.tokens }
 
-abbrev pub middle_of : List Opened → List Token
+abbrev pub middle_of : List OpenBrace → List Token
 middle_of [] = MiddleFolders ∷ []
 middle_of (brace ∷ opened) = Character slash ∷ AnyText ∷ Character slash ∷ []
 
-abbrev pub parted : List Opened → List Token → Reading
+abbrev pub parted : List OpenBrace → List Token → GlobReading
 parted [] tokens = record { opened = []; tokens = tokens ++ Character comma ∷ [] }
 parted (brace ∷ opened) tokens = record
     { opened = record brace { alternatives = brace.alternatives ++ tokens ∷ [] } ∷ opened; tokens = [] }
 
-abbrev pub closed : List Opened → List Token → Option Reading
+abbrev pub closed : List OpenBrace → List Token → Option GlobReading
 closed [] tokens = None
 closed (brace ∷ opened) tokens = Some
     (record { opened = opened; tokens = brace.before ++ Alternatives (brace.alternatives ++ tokens ∷ []) ∷ [] })
 
--- what is read with the piece, or none where it is a brace that is bad here
-abbrev pub after_piece : Reading → Piece → Option Reading
+-- the reading with one more piece, or none where the piece is a brace that is bad here
+abbrev pub after_piece : GlobReading → Piece → Option GlobReading
 after_piece reading (Whole token) = Some (record { opened = reading.opened; tokens = reading.tokens ++ token ∷ [] })
 after_piece reading Middle = Some
     (record { opened = reading.opened; tokens = reading.tokens ++ middle_of reading.opened })
@@ -46,7 +46,7 @@ after_piece reading (Open at) =
 after_piece reading Comma = Some (parted reading.opened reading.tokens)
 after_piece reading (Close at) = closed reading.opened reading.tokens
 
--- the number of the character that a brace is
+-- the number of the character of a brace
 abbrev pub brace_of : Piece → Option ℕ
 brace_of (Open at) = Some at
 brace_of (Close at) = Some at
@@ -54,66 +54,66 @@ brace_of (Whole token) = None
 brace_of Middle = None
 brace_of Comma = None
 
--- why reading does not go on: the piece is a brace that is bad here
-abbrev pub StopsReading : Reading → Piece → Stop → Type 0
+-- reading stops since the piece is a brace that is bad here, or memory ran out
+abbrev pub StopsReading : GlobReading → Piece → Stop → Type 0
 StopsReading reading piece (Fault i) = (after_piece reading piece ≡ None) × (brace_of piece ≡ Some i)
 StopsReading reading piece Memory = Unit {0}
 
--- a fault at this character comes for that reason
+-- a fault at this character has this reason
 abbrev pub StopsAt : ℕ → Type 0 → Stop → Type 0
 StopsAt at why (Fault i) = (i ≡ at) × why
 StopsAt at why Memory = Unit {0}
 
-abbrev pub OpensAt : ℕ → Reading → Reading → Type 0
+abbrev pub OpensAt : ℕ → GlobReading → GlobReading → Type 0
 OpensAt at old new = (length old.opened < most_braces)
     × (new ≡ record {
       opened = old.opened ++ record { at = at; before = old.tokens; alternatives = [] } ∷ [];
       tokens = [];
     })
 
--- a comma: outside braces it is itself, and inside it ends an alternative of the innermost
-pub data Parts : Reading → Reading → Type 0 where
-  itself : {old new : Reading} → old.opened ≡ [] → new ≡ record old { tokens = old.tokens ++ Character comma ∷ [] }
+-- a comma: outside braces it is itself, and inside it ends an alternative of the innermost brace
+pub data Parts : GlobReading → GlobReading → Type 0 where
+  itself : {old new : GlobReading} → old.opened ≡ [] → new ≡ record old { tokens = old.tokens ++ Character comma ∷ [] }
       → Parts old new
-  parts : {old new : Reading} (outer : List Opened) (brace : Opened) → old.opened ≡ outer ++ brace ∷ [] →
+  parts : {old new : GlobReading} (outer : List OpenBrace) (brace : OpenBrace) → old.opened ≡ outer ++ brace ∷ [] →
       new ≡ record {
         opened = outer ++ record brace { alternatives = brace.alternatives ++ old.tokens ∷ [] } ∷ [];
         tokens = [];
       } → Parts old new
 
--- a closing brace, which makes one token of the innermost brace
-pub record Closes (old new : Reading) : Type 0 where
-  pub outer : List Opened
-  pub brace : Opened
+-- A closing brace makes one token of the innermost brace.
+pub record Closes (old new : GlobReading) : Type 0 where
+  pub outer : List OpenBrace
+  pub brace : OpenBrace
   pub was : old.opened ≡ outer ++ brace ∷ []
   pub now_is : new ≡ record
       { opened = outer; tokens = brace.before ++ Alternatives (brace.alternatives ++ old.tokens ∷ []) ∷ [] }
 
 -- the number of the first of the braces, or this number
-abbrev pub outermost_of : List Opened → ℕ → ℕ
+abbrev pub outermost_of : List OpenBrace → ℕ → ℕ
 outermost_of [] at = at
 outermost_of (brace ∷ opened) at = brace.at
 
--- at the end a brace is open, and this is the outermost
-abbrev pub StopsEnd : List Opened → Stop → Type 0
-StopsEnd opened (Fault i) = (brace : Opened) × (inner : List Opened) × (opened ≡ brace ∷ inner) × (i ≡ brace.at)
+-- a brace is open at the end, and this is the outermost
+abbrev pub StopsEnd : List OpenBrace → Stop → Type 0
+StopsEnd opened (Fault i) = (brace : OpenBrace) × (inner : List OpenBrace) × (opened ≡ brace ∷ inner) × (i ≡ brace.at)
 StopsEnd opened Memory = Unit {0}
 
--- reading goes on by one piece, of so many characters
-pub record ReadsOn (characters : List ℕ) (next size : ℕ) (old new : Reading) : Type 0 where
+-- The reading has one more piece, of this many characters.
+pub record ReadsOn (characters : List ℕ) (next size : ℕ) (old new : GlobReading) : Type 0 where
   pub piece : Piece
   pub is_piece : IsPieceOf next (drop next characters) size piece
   pub after : after_piece (inner_first old) piece ≡ Some (inner_first new)
 
--- a piece is a brace that is bad here
-pub record IsBadBrace (characters : List ℕ) (next : ℕ) (old : Reading) (i : ℕ) : Type 0 where
+-- The next piece is a brace that is bad here.
+pub record IsBadBrace (characters : List ℕ) (next : ℕ) (old : GlobReading) (i : ℕ) : Type 0 where
   pub size : ℕ
   pub piece : Piece
   pub is_piece : IsPieceOf next (drop next characters) size piece
   pub after : after_piece (inner_first old) piece ≡ None
   pub brace : brace_of piece ≡ Some i
 
-abbrev pub StopsNext : List ℕ → ℕ → Reading → Stop → Type 0
+abbrev pub StopsNext : List ℕ → ℕ → GlobReading → Stop → Type 0
 StopsNext characters next old (Fault i) = IsStop next (outermost_of old.opened next) (drop next characters) i ⊎
     IsBadBrace characters next old i
 StopsNext characters next old Memory = Unit {0}

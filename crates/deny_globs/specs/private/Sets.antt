@@ -5,7 +5,7 @@ use Rattle.std.specs.List.Sorted.{IsStrictlyIncreasing}
 use Rattle.deny_globs.specs.Patterns.{Pattern}
 use Rattle.deny_globs.specs.Sets.{FitsAt}
 
--- the numbers are ascending, and those of exactly the globs that fit
+-- The numbers are ascending, and those of exactly the globs that fit.
 pub record AreFitting (globs : List Pattern) (path indices : List ℕ) : Type 0 where
   pub ascending : IsStrictlyIncreasing indices
   pub exact : (i : ℕ) → Contains indices i ↔ FitsAt globs i path

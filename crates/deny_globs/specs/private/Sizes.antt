@@ -1,10 +1,10 @@
--- How many states a glob takes.
+-- The number of states of a glob.
 use Rattle.std.specs.Prelude.{ℕ, ◌+◌, List, sum}
 use Rattle.std.specs.List.{sum_by}
 use Rattle.deny_globs.specs.declared.token.Token.{Token, fold-Token}
 use Rattle.deny_globs.specs.declared.token.Token.TheOpen.{Token-F}
 
--- the states of a token whose alternatives' tokens take so many
+-- the number of states of a token, from those of the tokens of its alternatives
 abbrev pub states_step : Token-F ℕ → ℕ
 states_step (Token-F.Character c) = 1
 states_step Token-F.AnyCharacter = 1

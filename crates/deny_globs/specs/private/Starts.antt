@@ -5,12 +5,12 @@ use Rattle.deny_globs.specs.declared.token.Token.{Token}
 use Rattle.deny_globs.specs.Fits.{Fits}
 use Rattle.deny_globs.specs.Starts.{AreStarts, Starting}
 
--- no state has come
+-- No state was added.
 pub record KeepsStarts (old new : Starts) : Type 0 where
   pub are : AreStarts new
   pub same : (path : List ℕ) (number : ℕ) → Starting new path number ↔ Starting old path number
 
--- the state has come at which a glob with these tokens starts: it stands where each path finds it that the glob fits
+-- The start of a glob with these tokens was added, where each path that the glob fits finds it.
 pub record AddsStart (tokens : List Token) (own : ℕ) (old new : Starts) : Type 0 where
   pub are : AreStarts new
   pub kept : (path : List ℕ) (number : ℕ) → Starting old path number → Starting new path number

@@ -1,4 +1,4 @@
--- What the functions that read a pattern promise one another.
+-- The promises of the functions that read a pattern.
 use Rattle.std.specs.Prelude.{ℕ, ◌+◌, ◌<◌, ◌≤◌, ◌≡◌, ◌⊎◌, List, [], ◌∷◌, ◌++◌, length, take, drop, IsTrue, ◌==◌, not}
 use Rattle.std.specs.Prelude.{Bool, true, false}
 use Rattle.deny_globs.specs.declared.token.CharacterRange.{CharacterRange}
@@ -20,7 +20,7 @@ pub data AddsMember : List ℕ → ℕ → List CharacterRange → List Characte
       → begins_range behind ≡ false → size ≡ 1 →
       new ≡ old ++ record { first = c; last = c } ∷ [] → AddsMember rest size old new
 
--- a range whose ends fall stands here
+-- The rest begins with a range whose ends fall.
 pub record IsFalling (rest : List ℕ) : Type 0 where
   pub first : ℕ
   pub last : ℕ
@@ -33,7 +33,7 @@ abbrev pub StopsMember : ℕ → List ℕ → Stop → Type 0
 StopsMember at rest (Fault i) = (i ≡ at) × IsFalling rest
 StopsMember at rest Memory = Unit {0}
 
--- the class closes behind so many characters, or they are followed by one that is a member
+-- the class closes after this many characters, or a member follows them
 abbrev pub ClosesAt : List ℕ → ℕ → Type 0
 ClosesAt body next = (0 < next) × IsTrue (begins close_bracket (drop next body))
 
@@ -43,14 +43,14 @@ GoesOnAt body next = (next ≡ 0) ⊎ (begins close_bracket (drop next body) ≡
 abbrev pub piece_of_class : Bool → List CharacterRange → Piece
 piece_of_class negated ranges = Token (OneOf (record { negated = negated; ranges = ranges }))
 
--- so many characters are the members, and a `]` is behind them
+-- This many characters are the members, and a `]` follows them.
 pub record IsClosedClass (body : List ℕ) (size : ℕ) (ranges : List CharacterRange) : Type 0 where
   pub some : 0 < size
   pub within : size < length body
   pub members : AreMembers true (take size body) (drop size body) ranges
   pub closed : IsTrue (begins close_bracket (drop size body))
 
--- the members go on to the end
+-- The members reach to the end.
 pub record IsUnclosed (body : List ℕ) : Type 0 where
   pub ranges : List CharacterRange
   pub members : AreMembers true body [] ranges
@@ -60,7 +60,7 @@ StopsMembers at unclosed body (Fault i) = ((into : ℕ) × FallsAt body into × 
     (IsUnclosed body × (i ≡ unclosed))
 StopsMembers at unclosed body Memory = Unit {0}
 
--- so many characters are the piece
+-- This many characters are the piece.
 pub record IsPieceOf (at : ℕ) (rest : List ℕ) (size : ℕ) (piece : Piece) : Type 0 where
   pub some : 0 < size
   pub within : size ≤ length rest

@@ -1,19 +1,20 @@
--- What the walk over a path promises.
+-- The promises of the walk over a path.
 use Rattle.std.specs.Prelude.{ℕ, ◌≡◌, ◌⊎◌, ◌↔◌, List, [], ◌∷◌, Bool, false, Some, Contains, slice_get}
-use Rattle.deny_globs.specs.declared.state.State.{State}
-use Rattle.deny_globs.specs.declared.state.State.TheVariants.{End}
+use Rattle.deny_globs.specs.declared.state.GlobState.{GlobState}
+use Rattle.deny_globs.specs.declared.state.GlobState.TheVariants.{End}
 use Rattle.deny_globs.specs.private.Marked.{Extends}
 use Rattle.deny_globs.specs.States.{IsAtOnce, IsBehind, Leads}
 use Rattle.deny_globs.specs.private.States.{SomeLeads}
 
--- the first of the characters passes the test
+-- whether the first of the characters passes the test
 abbrev pub first_passes : (ℕ → Bool) → List ℕ → Bool
 first_passes test [] = false
 first_passes test (c ∷ cs) = test c
 
--- a state is gone over: marked is what can still lead to an end, and nothing that it does not stand for
-pub record StepsOver (states : List State) (rest : List ℕ) (number : ℕ) (now later next after : List ℕ) : Type 0 where
-  pub state : State
+-- A state was visited: the states that follow it are marked, and no others.
+pub record StepsOver (states : List GlobState) (rest : List ℕ) (number : ℕ)
+    (now later next after : List ℕ) : Type 0 where
+  pub state : GlobState
   pub at : slice_get states number ≡ Some state
   pub now_extends : Extends now later
   pub next_extends : Extends next after
@@ -24,24 +25,19 @@ pub record StepsOver (states : List State) (rest : List ℕ) (number : ℕ) (now
   pub next_only : (other : ℕ) → Contains after other →
       Contains next other ⊎ ((c : ℕ) × (cs : List ℕ) × (rest ≡ c ∷ cs) × IsBehind number state c other)
 
--- the end of the glob is marked
-pub record HasEnd (states : List State) (marked : List ℕ) (glob : ℕ) : Type 0 where
+-- The end of the glob is marked.
+pub record HasEnd (states : List GlobState) (marked : List ℕ) (glob : ℕ) : Type 0 where
   pub number : ℕ
   pub is_marked : Contains marked number
   pub is_end : slice_get states number ≡ Some (End glob)
 
--- the states marked behind the next character lead on as those before it did, and at the end of the path exactly the
--- ends are marked that they led to
-pub record Passes (states : List State) (rest before now next : List ℕ) : Type 0 where
+-- The states marked after the next character lead on as those before it did, and at the end of the path exactly the
+-- ends are marked that they led to.
+pub record Passes (states : List GlobState) (rest before now next : List ℕ) : Type 0 where
   pub on : (c : ℕ) (cs : List ℕ) → rest ≡ c ∷ cs → (glob : ℕ)
       → SomeLeads states before glob rest ↔ SomeLeads states next glob cs
   pub at_end : rest ≡ [] → (glob : ℕ) → SomeLeads states before glob rest ↔ HasEnd states now glob
 
--- marked are starts alone, and all that can lead to an end
-pub record MarksStarts (states : List State) (starts path marked : List ℕ) : Type 0 where
-  pub only : (number : ℕ) → Contains marked number → Contains starts number
-  pub all : (number glob : ℕ) → Contains starts number → Leads states glob number path → Contains marked number
-
--- noted are those that were, and those with the property
+-- The notes gain exactly the numbers with the property.
 pub record Notes (P : ℕ → Type 0) (old new : List ℕ) : Type 0 where
   pub each : (glob : ℕ) → Contains new glob ↔ (Contains old glob ⊎ P glob)

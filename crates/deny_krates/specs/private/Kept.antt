@@ -1,27 +1,27 @@
--- What a graph keeps beside its crates.
+-- What a graph keeps besides its crates and edges.
 use Rattle.std.specs.Prelude.{◌≡◌, ◌<◌, ◌^◌, ℕ, List, length}
 use Rattle.std.specs.Cmp.Lexicographic.{slice_cmp}
 use Rattle.std.specs.List.Sorted.{IsSortedByKey}
 use Rattle.std.specs.Ordering.{nat_cmp}
 use Rattle.deny_base.specs.declared.edge.Edge.{Edge}
-use Rattle.deny_crate_graph.specs.Bounds.{lock_length, node_count}
-use Rattle.deny_crate_graph.specs.Crates.{crates_from, graph_of}
-use Rattle.deny_crate_graph.specs.Dependents.{AreDirectDependencies, AreDirectDependents, AreRows}
-use Rattle.deny_crate_graph.specs.IdEntries.{AreIds}
-use Rattle.deny_crate_graph.specs.Orderly.{IsOrderly}
+use Rattle.deny_krates_graph.specs.Bounds.{lock_length, node_count}
+use Rattle.deny_krates_graph.specs.Crates.{crates_from, graph_of}
+use Rattle.deny_krates_graph.specs.Dependents.{AreDirectDependencies, AreDirectDependents, AreRows}
+use Rattle.deny_krates_graph.specs.IdEntries.{AreIds}
+use Rattle.deny_krates_graph.specs.Orderly.{IsOrderly}
 use Rattle.deny_krates.specs.private.NodeNumbers.{first_features_of}
 use Rattle.deny_krates.specs.private.Resolved.{AreResolved}
-use Rattle.deny_crate_graph.specs.declared.ids.Entry.{Entry}
+use Rattle.deny_krates_graph.specs.declared.ids.IdEntry.{IdEntry}
 use Rattle.deny_krates.specs.declared.resolved.ResolvedAt.{ResolvedAt}
-use Rattle.deny_crate_graph.specs.declared.krate.DirectDependent.{DirectDependent}
-use Rattle.deny_crate_graph.specs.declared.krate.Krate.{Krate}
-use Rattle.deny_model.specs.declared.target_edge.TargetEdge.{TargetEdge}
+use Rattle.deny_krates_graph.specs.declared.krate.DirectDependent.{DirectDependent}
+use Rattle.deny_krates_graph.specs.declared.krate.Krate.{Krate}
+use Rattle.deny_spec.specs.declared.target_edge.TargetEdge.{TargetEdge}
 
--- the crates are in order and few, their lock text and nodes too, and what is kept of the crates' neighbours,
--- ids, features and declarations is the graph's
+-- the crates are in order, they, their lock text and their nodes are within bounds, and the neighbours, ids, first
+-- features and declarations that are kept are those of the graph
 pub record IsKept (targeted : List TargetEdge) (root : List ℕ) (krates : List Krate) (members : List ℕ)
     (edges : List Edge)
-    (dependents dependencies : List (List DirectDependent)) (entries : List Entry) (starts : List ℕ)
+    (dependents dependencies : List (List DirectDependent)) (entries : List IdEntry) (starts : List ℕ)
     (resolved : List ResolvedAt) : Type 0 where
   pub few : length krates < 2 ^ 28
   pub names : IsSortedByKey (λ k. k.name) (slice_cmp nat_cmp) krates

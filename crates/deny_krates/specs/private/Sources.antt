@@ -1,5 +1,5 @@
--- Sources of edges as they are gathered, with the ids by which they are put in order.
-use Rattle.std.specs.Prelude.{◌≡◌, ◌&&◌, ℕ, Bool, false, not, List, [], Option, Some, map, slice_get}
+-- Sources of edges as they are collected, with the ids by which they are ordered.
+use Rattle.std.specs.Prelude.{◌≡◌, ◌&&◌, ℕ, Bool, false, not, List, Option, Some, map, slice_get}
 use Rattle.std.specs.Cmp.Lexicographic.{slice_cmp}
 use Rattle.std.specs.List.{list_any}
 use Rattle.std.specs.Option.{option_and_then, option_cmp, option_map_or}
@@ -7,16 +7,16 @@ use Rattle.std.specs.Ordering.{nat_cmp, on, then_cmp}
 use Rattle.std.specs.declared.cmp.Ordering.{Ordering}
 use Rattle.deny_base.specs.Edge.{kind_cmp}
 use Rattle.deny_base.specs.declared.edge.DepKind.{DepKind}
-use Rattle.deny_crate_graph.specs.Crates.{crate_view, dependency_view}
-use Rattle.deny_crate_graph.specs.Dependents.{id_at}
+use Rattle.deny_krates_graph.specs.Crates.{crate_view, dependency_view}
+use Rattle.deny_krates_graph.specs.Dependents.{id_at}
 use Rattle.deny_krates.specs.Nodes.{Incoming, Node, asked, entries_of, is_of_kind, leads_over, node_in}
 use Rattle.deny_krates.specs.declared.incoming.Parent.{Parent}
-use Rattle.deny_crate_graph.specs.declared.krate.Krate.{Krate}
+use Rattle.deny_krates_graph.specs.declared.krate.Krate.{Krate}
 use Rattle.deny_krates.specs.declared.resolved.ResolvedAt.{ResolvedAt}
-use Rattle.deny_model.specs.Graph.{Crate, Dependency, Graph}
-use Rattle.deny_model.specs.Text.{same_text}
+use Rattle.deny_spec.specs.Graph.{Crate, Dependency, Graph}
+use Rattle.deny_spec.specs.Text.{same_text}
 
--- by feature, none first, then by crate id, kind and place
+-- the order of sources with their ids: by feature, none first, then by crate id, kind and place
 abbrev pub parent_cmp : Parent → Parent → Ordering
 parent_cmp =
     then_cmp (on (λ p. p.feature) (option_cmp (slice_cmp nat_cmp))) (then_cmp (on (λ p. p.id) (slice_cmp nat_cmp))
@@ -34,10 +34,6 @@ parent_of g i = record {
 abbrev pub source_of : Parent → Incoming
 source_of p = record { node = record { place = p.place; feature = p.feature }; kind = p.kind }
 
--- what is said of the crate at a place, or nothing
-abbrev pub of_crate_at : Graph → (Crate → List Incoming) → ℕ → List Incoming
-of_crate_at g sources place = option_map_or sources (slice_get g.crates place) []
-
 -- a feature of a crate, or the crate, as a source
 abbrev pub parent_in : Crate → Option DepKind → Option (List ℕ) → Parent
 parent_in c kind feature = record { feature = feature; id = c.id; kind = kind; place = c.place }
@@ -50,7 +46,7 @@ passes_there ds test r = option_map_or test (slice_get ds r.index) false
 abbrev pub any_there : List Dependency → DepKind → (Dependency → Bool) → List ResolvedAt → Bool
 any_there ds kind test = list_any (passes_there ds (λ d. is_of_kind kind d && test d))
 
--- the node of a crate, or of an enabled feature of it
+-- the node of the crate at a place, or of a feature of it if it is enabled
 abbrev pub node_here : Graph → ℕ → Option (List ℕ) → Option Node
 node_here g place feature = option_and_then (node_in feature) (slice_get g.crates place)
 

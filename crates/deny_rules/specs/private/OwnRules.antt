@@ -1,19 +1,19 @@
 -- The rules of the bans check: those on crates whose keys are lists, and the others.
 use Rattle.std.specs.Prelude.{◌⊎◌, Contains}
 use Rattle.deny_base.specs.declared.key.Key.{Key}
-use Rattle.deny_model.specs.Duplicates.{IsDuplicate}
-use Rattle.deny_codes.specs.Circumstances.{Circumstances}
-use Rattle.deny_codes.specs.Facts.{Facts}
-use Rattle.deny_codes.specs.Packages.{build_keys_in, deprecated_keys_in}
-use Rattle.deny_crate_rules.specs.Rules.{ban_rules, keys_of_rules, skip_rules}
-use Rattle.deny_features.specs.FeatureKeys.{IsOfFeatures}
-use Rattle.deny_manifest_rules.specs.ManifestKeys.{IsOfManifests}
+use Rattle.deny_spec.specs.Duplicates.{IsDuplicate}
+use Rattle.deny_spec_report.specs.Circumstances.{Circumstances}
+use Rattle.deny_spec_report.specs.Facts.{Facts}
+use Rattle.deny_spec_report.specs.Packages.{build_keys_in, deprecated_keys_in}
+use Rattle.deny_rules_crates.specs.Rules.{ban_rules, keys_of_rules, skip_rules}
+use Rattle.deny_rules_features.specs.FeatureKeys.{IsOfFeatures}
+use Rattle.deny_rules_manifests.specs.ManifestKeys.{IsOfManifests}
 
--- what stands of packages and their build scripts, and of the older key for them
+-- the keys of packages and their build scripts, and of the deprecated key for them
 abbrev pub IsOfBuilds : Circumstances → Facts → Key → Type 0
 IsOfBuilds c facts key = Contains (build_keys_in c facts) key ⊎ Contains (deprecated_keys_in c) key
 
--- what stands by one of the rules on crates, their features, what manifests write, and packages
+-- the key holds by one of the rules on crates, their features, manifests, and packages
 abbrev pub IsByRule : Circumstances → Facts → Key → Type 0
 IsByRule c facts key = Contains (keys_of_rules (ban_rules c.policy c.graph)) key
     ⊎ (Contains (keys_of_rules (skip_rules c.policy c.graph facts.chains)) key

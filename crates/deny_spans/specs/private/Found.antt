@@ -5,59 +5,59 @@ use Rattle.std.specs.Cmp.Lexicographic.{slice_cmp}
 use Rattle.std.specs.List.{flat_map}
 use Rattle.std.specs.Option.{option_flatten}
 use Rattle.std.specs.Ordering.{nat_cmp}
-use Rattle.deny_lists.specs.Ascending.{Lists}
-use Rattle.deny_outside.specs.Disk.{Files}
+use Rattle.deny_base_lists.specs.Ascending.{Lists}
+use Rattle.deny_base_disk.specs.Disk.{Files}
 use Rattle.deny_base.specs.declared.files.File.{File}
-use Rattle.deny_manifests.specs.Agreement.{TellsAgreement}
+use Rattle.deny_spans_manifest.specs.Agreement.{ReportsAgreement}
 use Rattle.deny_krates.specs.Ids.{crate_of}
-use Rattle.deny_model.specs.Graph.{Crate, Graph}
-use Rattle.deny_spans.specs.Look.{Look, Reading, kept_as, kept_of, workspace_look, workspace_reading}
+use Rattle.deny_spec.specs.Graph.{Crate, Graph}
+use Rattle.deny_spans.specs.ManifestScan.{ManifestScan, Reading, kept_as, kept_of, workspace_scan, workspace_reading}
 use Rattle.deny_spans.specs.Paths.{workspace_path}
-use Rattle.deny_spans.specs.Seen.{AreLooks, manifest_in}
+use Rattle.deny_spans.specs.Seen.{AreManifestScans, manifest_in}
 use Rattle.deny_spans.specs.SpansView.{IsManifestAt, graph_in, lock_spans_in, manifest_view, manifests_in, shared_in}
-use Rattle.deny_spans.specs.declared.krate_spans.Found.{Found}
+use Rattle.deny_spans.specs.declared.krate_spans.FoundManifests.{FoundManifests}
 use Rattle.deny_spans.specs.declared.krate_spans.KrateSpans.{KrateSpans}
 use Rattle.deny_spans.specs.declared.krate_spans.Lock.{Lock}
 use Rattle.deny_spans.specs.private.Gathered.{broken_if, broken_of, is_broken, missing_of}
 use Rattle.deny_spans.specs.private.Workspace.{AreShared, AreSharedIf, IsWorkspaceBy}
 use Rattle.deny_toml.specs.value.Value.{Value}
-use Rattle.deny_unread.specs.Unread.{asked, if_unread, unread_cmp}
-use Rattle.deny_unread.specs.declared.purpose.Purpose.TheVariants as purpose
-use Rattle.deny_unread.specs.declared.unread.Unread.{Unread}
-use Rattle.deny_workspace.specs.declared.registries.Registry.{Registry}
-use Rattle.deny_workspace.specs.declared.workspace.WorkspaceDeps.{WorkspaceDeps}
+use Rattle.deny_base.specs.Unread.{asked, if_unread, unread_cmp}
+use Rattle.deny_base.specs.declared.purpose.Purpose.TheVariants as purpose
+use Rattle.deny_base.specs.declared.unread.Unread.{Unread}
+use Rattle.deny_spans_workspace.specs.declared.registries.Registry.{Registry}
+use Rattle.deny_spans_workspace.specs.declared.workspace.WorkspaceDeps.{WorkspaceDeps}
 
--- the crate of an id stands at a place
-pub record StandsAt (g : Graph) (id : List ℕ) (place : ℕ) : Type 0 where
+-- the crate with an id is at a place of the graph
+pub record OccursAt (g : Graph) (id : List ℕ) (place : ℕ) : Type 0 where
   pub crate : Crate
   pub found : crate_of g id ≡ Some crate
   pub at : slice_get g.crates place ≡ Some crate
   pub is : crate.place ≡ place
 
--- the entry of the workspace's manifest, where it is no crate's
-abbrev pub missing_alone : Graph → List Look → Option Reading → List Unread
-missing_alone g looks alone =
-    if_unread (asked None purpose.Manifest (workspace_path g.root)) (is_some (workspace_look g looks) || is_some alone)
+-- the entry for the workspace's manifest, where it is no crate's and was not read
+abbrev pub missing_alone : Graph → List ManifestScan → Option Reading → List Unread
+missing_alone g scans alone =
+    if_unread (asked None purpose.Manifest (workspace_path g.root)) (is_some (workspace_scan g scans) || is_some alone)
 
 abbrev pub broken_alone : Graph → Option Reading → List (List ℕ)
 broken_alone g alone = broken_if (workspace_path g.root) (is_broken alone)
 
--- what was found with these looks
+-- the found manifests are those of the scans
 pub record IsFound (told : Option Files) (g : Graph) (registries : List Registry) (old new : List File)
-    (f : Found) : Type 0 where
-  pub looks : List Look
+    (f : FoundManifests) : Type 0 where
+  pub scans : List ManifestScan
   pub alone : Option Reading
-  pub are : AreLooks told g (length old) looks alone
-  pub files : new ≡ old ++ (flat_map kept_of looks ++ kept_as (workspace_path g.root) alone)
-  pub unread : f.missed.unread ≡ flat_map missing_of looks ++ missing_alone g looks alone
-  pub malformed : f.missed.malformed ≡ flat_map broken_of looks ++ broken_alone g alone
-  pub manifests : (agrees : List ℕ → List ℕ → Bool) → TellsAgreement agrees
-      → map (option_map manifest_view) f.manifests ≡ map (manifest_in agrees g) looks
+  pub are : AreManifestScans told g (length old) scans alone
+  pub files : new ≡ old ++ (flat_map kept_of scans ++ kept_as (workspace_path g.root) alone)
+  pub unread : f.missed.unread ≡ flat_map missing_of scans ++ missing_alone g scans alone
+  pub malformed : f.missed.malformed ≡ flat_map broken_of scans ++ broken_alone g alone
+  pub manifests : (agrees : List ℕ → List ℕ → Bool) → ReportsAgreement agrees
+      → map (option_map manifest_view) f.manifests ≡ map (manifest_in agrees g) scans
   pub own : (place : ℕ) → IfSome (option_flatten (slice_get f.manifests place)) (IsManifestAt g place)
-  pub workspace : IsWorkspaceBy g registries (workspace_reading g looks alone) f.workspace
+  pub workspace : IsWorkspaceBy g registries (workspace_reading g scans alone) f.workspace
 
--- spans were put together of what was found
-pub record IsPutTogether (g : Graph) (lock : Lock) (f : Found) (s : KrateSpans) : Type 0 where
+-- the spans are made of the lock text and the found manifests
+pub record IsPutTogether (g : Graph) (lock : Lock) (f : FoundManifests) (s : KrateSpans) : Type 0 where
   pub graph : graph_in s ≡ g
   pub lock_id : s.lock_id ≡ lock.id
   pub lock_spans : lock_spans_in s ≡ lock.spans

@@ -1,24 +1,24 @@
--- What is made of the manifest of the workspace.
+-- The manifest of the workspace, and what its dependencies resolve to.
 use Rattle.std.specs.Prelude.{◌≡◌, ◌<◌, ℕ, ◌^◌, ◌++◌, ◌&&◌, Bool, IfSome, List, MatchOption, None, Option, Some}
 use Rattle.std.specs.Prelude.{is_none, is_some, length, map, option_map, slice_get}
 use Rattle.std.specs.Option.{option_and_then, option_flatten}
-use Rattle.deny_outside.specs.Disk.{Files}
+use Rattle.deny_base_disk.specs.Disk.{Files}
 use Rattle.deny_base.specs.declared.files.File.{File}
 use Rattle.deny_krates.specs.krate.Krate.{Krate}
-use Rattle.deny_model.specs.Graph.{Graph}
-use Rattle.deny_model.specs.Text.{same_text}
-use Rattle.deny_spans.specs.Look.{IsReadAt, ReadsAs, Reading, home_in, kept_as, number_of, tree_of}
+use Rattle.deny_spec.specs.Graph.{Graph}
+use Rattle.deny_spec.specs.Text.{same_text}
+use Rattle.deny_spans.specs.ManifestScan.{IsReadAt, ReadsAs, Reading, home_in, kept_as, number_of, tree_of}
 use Rattle.deny_spans.specs.Paths.{workspace_path}
 use Rattle.deny_spans.specs.Seen.{entries_by}
 use Rattle.deny_spans.specs.declared.missed.Missed.{Missed}
 use Rattle.deny_spans.specs.declared.workspace.Workspace.{Workspace}
 use Rattle.deny_spans.specs.private.Gathered.{broken_if, is_broken, reading}
 use Rattle.deny_toml.specs.value.Value.{Value}
-use Rattle.deny_unread.specs.Unread.{asked, if_unread}
-use Rattle.deny_unread.specs.declared.purpose.Purpose.TheVariants as purpose
-use Rattle.deny_workspace.specs.Workspace.{AreSpans, dep_view, unused_in}
-use Rattle.deny_workspace.specs.declared.registries.Registry.{Registry}
-use Rattle.deny_workspace.specs.declared.workspace.WorkspaceDeps.{WorkspaceDeps}
+use Rattle.deny_base.specs.Unread.{asked, if_unread}
+use Rattle.deny_base.specs.declared.purpose.Purpose.TheVariants as purpose
+use Rattle.deny_spans_workspace.specs.Workspace.{AreSpans, dep_view, unused_in}
+use Rattle.deny_spans_workspace.specs.declared.registries.Registry.{Registry}
+use Rattle.deny_spans_workspace.specs.declared.workspace.WorkspaceDeps.{WorkspaceDeps}
 
 -- what the dependencies of a workspace resolve to, by the tree of its manifest
 pub record AreShared (g : Graph) (registries : List Registry) (tree : Option Value)
@@ -26,25 +26,25 @@ pub record AreShared (g : Graph) (registries : List Registry) (tree : Option Val
   pub spans : AreSpans g (entries_by g registries tree) deps.spans.items
   pub unused : map (dep_view None) deps.unused ≡ unused_in (entries_by g registries tree)
 
--- there are some exactly where there is a tree
+-- the dependencies are there exactly where the manifest has a tree
 pub record AreSharedIf (g : Graph) (registries : List Registry) (tree : Option Value) (deps : Option WorkspaceDeps)
     : Type 0 where
   pub some : is_some deps ≡ is_some tree
   pub are : IfSome deps (AreShared g registries tree)
 
--- those of a text
+-- the workspace's dependencies by the text of its manifest
 pub record AreSharedIn (g : Graph) (registries : List Registry) (text : List ℕ)
     (deps : Option WorkspaceDeps) : Type 0 where
   pub tree : Option Value
   pub reads : ReadsAs text tree
   pub are : AreSharedIf g registries tree deps
 
--- those of a text, if there is one
+-- the workspace's dependencies by the text of its manifest, if there is one
 abbrev pub AreSharedOf : Graph → List Registry → Option (List ℕ) → Option WorkspaceDeps → Type 0
 AreSharedOf g registries None deps = deps ≡ None
 AreSharedOf g registries (Some text) deps = AreSharedIn g registries text deps
 
--- the text of the file of a number
+-- the text of the file with a number
 abbrev pub text_at : List File → Option ℕ → Option (List ℕ)
 text_at files id = option_and_then (λ number. option_map (λ file. file.source) (slice_get files number)) id
 
@@ -55,7 +55,7 @@ is_home path k = is_none k.source && same_text k.manifest_path path
 abbrev pub home_file : Graph → List (Option ℕ) → Option ℕ
 home_file g numbers = option_flatten (option_and_then (slice_get numbers) (home_in g))
 
--- the text of the workspace's manifest, where that is a crate's, can be read as TOML
+-- the text of the workspace's manifest, where that is a crate's, is short enough to be parsed
 abbrev pub IsShortAt : Graph → List (Option ℕ) → List File → Type 0
 IsShortAt g numbers files = IfSome (text_at files (home_file g numbers)) (λ text. length text < 2 ^ 28)
 
@@ -92,7 +92,7 @@ pub record IsKeptAlone (g : Graph) (registries : List Registry) (path text : Lis
   pub files : new ≡ old ++ kept_as path (Some (reading text tree (length old)))
   pub is : IsWorkspaceBy g registries (Some (reading text tree (length old))) w
 
--- nothing was read, since the manifest is a crate's
+-- the workspace's manifest was not read again, since it is a crate's
 pub record IsNotRead (g : Graph) (registries : List Registry) (numbers : List (Option ℕ))
     (old_files new_files : List File)
     (old new : Missed) (w : Workspace) : Type 0 where
@@ -101,7 +101,7 @@ pub record IsNotRead (g : Graph) (registries : List Registry) (numbers : List (O
   pub malformed : new.malformed ≡ old.malformed
   pub is : IsOfCrate g registries numbers old_files w
 
--- which of both
+-- the workspace's manifest is a crate's, or was read on its own
 abbrev pub IsWorkspaceIn : Option Files → Graph → List Registry → List (Option ℕ) → List File → List File → Missed
     → Missed
     → Workspace → Type 0

@@ -1,4 +1,4 @@
--- The entries that pass crates over, by their numbers.
+-- The policy's ignores, by their indices.
 use Rattle.std.specs.Prelude.{ℕ, Bool, false, List, Option, option_map, slice_get}
 use Rattle.std.specs.Option.{option_map_or}
 use Rattle.semver.specs.Identifiers.{parts_of}
@@ -7,14 +7,14 @@ use Rattle.deny_cfg.specs.PackageSpecOrExtended.{PackageSpecOrExtended}
 use Rattle.deny_cfg.specs.Reason.{Reason}
 use Rattle.deny_cfg.specs.SpecView.{spec_view}
 use Rattle.deny_krates.specs.krate.Krate.{Krate}
-use Rattle.deny_model.specs.Match.{speaks_of}
+use Rattle.deny_spec.specs.Match.{spec_matches}
 
 abbrev pub entry_name : PackageSpecOrExtended Reason → List ℕ
 entry_name e = e.spec.name.value
 
-abbrev pub entry_range : List (PackageSpecOrExtended Reason) → ℕ → Option Span
-entry_range entries number = option_map (λ e. e.spec.name.span) (slice_get entries number)
+abbrev pub entry_span : List (PackageSpecOrExtended Reason) → ℕ → Option Span
+entry_span entries number = option_map (λ e. e.spec.name.span) (slice_get entries number)
 
-abbrev pub speaks_at : List (PackageSpecOrExtended Reason) → Krate → ℕ → Bool
-speaks_at entries krate number = option_map_or
-    (λ e. speaks_of (spec_view e.spec) krate.name (parts_of krate.version)) (slice_get entries number) false
+abbrev pub matches_at : List (PackageSpecOrExtended Reason) → Krate → ℕ → Bool
+matches_at entries krate number = option_map_or
+    (λ e. spec_matches (spec_view e.spec) krate.name (parts_of krate.version)) (slice_get entries number) false

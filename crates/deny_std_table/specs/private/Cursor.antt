@@ -1,11 +1,11 @@
--- What a cursor gives, and that it ends.
+-- The next item of a cursor, and its end.
 use Rattle.std.specs.Prelude.{◌≡◌, [], ◌∷◌, Ok}
 use Rattle.deny_std_table.specs.declared.spans.ItemSpans.{ItemSpans}
 use Rattle.deny_std_table.specs.declared.cursor.Cursor.{Cursor}
 use Rattle.deny_std_table.specs.private.Spans.{IsItemIn}
 use Rattle.deny_std_table.specs.Cursor.{coming_of, left_of}
 
--- One item was given: the first of those to come, and the others come after it.
+-- One item was given: the first of those left, and the others follow it.
 pub record GivesItem (old new : Cursor) (spans : ItemSpans) : Type 0 where
   pub same : new.region ≡ old.region
   pub reads : coming_of new ≡ Ok (left_of new)

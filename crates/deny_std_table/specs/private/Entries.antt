@@ -5,7 +5,7 @@ use Rattle.deny_std_table.specs.declared.error.ReplacementError.{ReplacementErro
 use Rattle.deny_std_table.specs.declared.spans.TextSpan.{TextSpan}
 use Rattle.deny_std_table.specs.Entries.{Entry}
 
--- its name, or its break
+-- the name of an entry, or its break
 abbrev pub name_of : Result Entry ReplacementError → Result TextSpan ReplacementError
 name_of (Ok e) = Ok e.name
 name_of (Err e) = Err e

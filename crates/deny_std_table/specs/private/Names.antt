@@ -1,4 +1,4 @@
--- The names of a table that holds, found by their number.
+-- The names of a table that was read, by their number.
 use Rattle.std.specs.Prelude.{◌≡◌, ℕ, ◌+◌, ◌<◌, ◌≤◌, List, length}
 use Rattle.std.specs.Cmp.Lexicographic.{slice_cmp}
 use Rattle.std.specs.Ordering.{nat_cmp}
@@ -16,7 +16,7 @@ name_span width bytes i = text_span (bounds width bytes 0) (start_of bytes i)
 unfoldable pub name_at : ℕ → List ℕ → ℕ → List ℕ
 name_at width bytes i = contents bytes (name_span width bytes i)
 
--- All names are inside the bytes, and rise.
+-- All names lie in the bytes, and ascend.
 pub record HasNames (width : ℕ) (bytes : List ℕ) (count : ℕ) : Type 0 where
   pub offsets : HasOffsets bytes count
   pub inside : (i : ℕ) → i < count → (name_span width bytes i).at + (name_span width bytes i).size ≤ length bytes

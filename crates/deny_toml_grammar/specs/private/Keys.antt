@@ -8,11 +8,11 @@ use Rattle.deny_toml_grammar.specs.private.Reading.{◌>>=◌, read_map}
 use Rattle.deny_toml_grammar.specs.Strings.{one_line}
 use Rattle.deny_toml_grammar.specs.private.Strings.{starts_string}
 
--- a key of which the name and the range are known
+-- the key of a string that was read
 abbrev pub quoted_key : Spanned (List ℕ) → Key
 quoted_key s = record { name = s.value; span = s.span }
 
--- a part of a key without quotes, and what follows it
+-- a bare part of a key, and the text after it
 abbrev pub bare_with : ℕ → List ℕ → List ℕ × List ℕ → Key × List ℕ
 bare_with total text parts = (record { name = parts.0; span = between total text parts.1 }, parts.1)
 
@@ -26,7 +26,7 @@ simple_key total text =
     else if is_bare (first text) then Some (bare_key total text)
     else None
 
--- the rest of a key of at most n parts after those found, and the spaces after it
+-- the rest of a key of at most n parts, after those found, and the spaces after it
 unfoldable pub key_after : ℕ → ℕ → List Key → List ℕ → Read (List Key)
 key_after zero total found text = None
 key_after (suc n) total found text = do

@@ -3,8 +3,8 @@ use Rattle.std.specs.Prelude.{ℕ, zero, suc, Bool, true, false, ◌||◌, ◌==
 use Rattle.std.specs.Prelude.{drop, Option, Some, None}
 use Rattle.deny_toml_grammar.specs.declared.parts.Key.{Key}
 use Rattle.deny_toml_grammar.specs.declared.expression.Header.{Header}
-use Rattle.deny_toml_grammar.specs.declared.expression.Expression.{Expression}
-use Rattle.deny_toml_grammar.specs.declared.expression.Expression.TheVariants as expression
+use Rattle.deny_toml_grammar.specs.declared.expression.TomlExpression.{TomlExpression}
+use Rattle.deny_toml_grammar.specs.declared.expression.TomlExpression.TheVariants as expression
 use Rattle.deny_toml_grammar.specs.Lexical.{Read, hash, line_feed, carriage_return, left_bracket, right_bracket, first}
 use Rattle.deny_toml_grammar.specs.Lexical.{skip_spaces}
 use Rattle.deny_toml_grammar.specs.private.Lexical.{skip_blank}
@@ -13,7 +13,7 @@ use Rattle.deny_toml_grammar.specs.Expression.{depth_limit, header_with}
 use Rattle.deny_toml_grammar.specs.private.Keys.{key}
 use Rattle.deny_toml_grammar.specs.private.Values.{assignment, value}
 
--- what follows this byte at the start
+-- the text after this byte, where it begins with it
 abbrev pub after_byte : ℕ → List ℕ → Option (List ℕ)
 after_byte byte text = if first text == byte then Some (drop 1 text) else None
 
@@ -38,21 +38,21 @@ header total text =
     else read_map (header_with false) (header_path total text)
 
 -- a header, or a key and its value
-unfoldable pub expression_at : ℕ → List ℕ → Read Expression
+unfoldable pub expression_at : ℕ → List ℕ → Read TomlExpression
 expression_at total text =
     if first text == left_bracket then read_map expression.Header (header total (drop 1 text))
     else read_map expression.Assignment (assignment (value depth_limit total) total text)
 
--- the text is over, or goes on with a comment or a line end
+-- whether the text is empty, or begins with a comment or a line end
 abbrev pub ends_line : List ℕ → Bool
 ends_line text = ((length text == 0 || first text == hash) || first text == line_feed) || first text == carriage_return
 
--- an expression that has its line to itself
-unfoldable pub line : ℕ → List ℕ → Read Expression
+-- an expression with nothing after it on its line but blanks and a comment
+unfoldable pub line : ℕ → List ℕ → Read TomlExpression
 line total text = expression_at total text >>= (λ e. if ends_line (skip_spaces e.1) then Some e else None)
 
--- the expressions of the rest of the text, of which there are fewer than n, after those found
-unfoldable pub lines : ℕ → ℕ → List Expression → List ℕ → Option (List Expression)
+-- the expressions of the rest of the text, fewer than n, after those found
+unfoldable pub lines : ℕ → ℕ → List TomlExpression → List ℕ → Option (List TomlExpression)
 lines zero total found text = None
 lines (suc n) total found text =
     let start = skip_blank text in
@@ -60,5 +60,5 @@ lines (suc n) total found text =
     else line total start >>= (λ e. lines n total (found ++ e.0 ∷ []) e.1)
 
 -- the expressions of a text
-unfoldable pub expressions : List ℕ → Option (List Expression)
+unfoldable pub expressions : List ℕ → Option (List TomlExpression)
 expressions text = lines (suc (length text)) (length text) [] text

@@ -1,4 +1,4 @@
--- What the steps of the readers of strings give.
+-- The results of the steps of the readers of strings.
 use Rattle.std.specs.Prelude.{ℕ, ◌^◌, string_bytes, String, Result, Bool, ◌&&◌, ◌||◌, ◌==◌, nat_lt, if◌then◌else◌, List}
 use Rattle.std.specs.Prelude.{Option, Some, None}
 use Rattle.std.specs.List.{list_all}
@@ -20,6 +20,6 @@ hex_value digits =
     if list_all (λ c. is_digit c 16) digits && nat_lt (digits_value 16 digits) (2 ^ 63) then Some
     (digits_value 16 digits) else None
 
--- the bytes of a string, and the rest, are those that are expected
+-- The result is the expected bytes of a string, and the expected rest.
 abbrev pub ReadsBytes : Result (String Global × Bor (List ℕ)) ReadError → Read (List ℕ) → Type 0
 ReadsBytes r expected = GivesAs (λ p. (string_bytes p.0, p.1.now)) r expected

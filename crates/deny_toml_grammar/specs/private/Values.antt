@@ -17,26 +17,26 @@ use Rattle.deny_toml_grammar.specs.private.Lexical.{skip_blank}
 use Rattle.deny_toml_grammar.specs.private.Reading.{◌>>=◌, read_map, GivesAs}
 use Rattle.deny_toml_grammar.specs.Strings.{quoted}
 use Rattle.deny_toml_grammar.specs.private.Strings.{starts_string}
-use Rattle.deny_toml_grammar.specs.private.Words.{unquoted}
+use Rattle.deny_toml_grammar.specs.private.Unquoted.{unquoted}
 use Rattle.deny_toml_grammar.specs.private.Keys.{key}
 
 abbrev pub quoted_value : Spanned Scalar → Written
 quoted_value s = written_with s.span (written.Scalar s.value)
 
--- what stands from `text` to the rest
+-- the written value that reaches from `text` to the rest
 abbrev pub written_from : ℕ → List ℕ → List ℕ → WrittenContent → Written
 written_from total text rest content = written_with (between total text rest) content
 
 abbrev pub whole : {A : Type 0} → (A → WrittenContent) → ℕ → List ℕ → A × List ℕ → Written × List ℕ
 whole content total text p = (written_from total text p.1 (content p.0), p.1)
 
--- a value that contains no others
+-- a value that contains no other values
 unfoldable pub scalar : ℕ → List ℕ → Read Written
 scalar total text =
     if starts_string text then read_map quoted_value (quoted total text)
     else option_map (whole written.Scalar total text) (unquoted text)
 
--- after an element of an array: a comma, or the closing bracket, which stays
+-- the text after an element of an array: past a comma, or at the closing bracket
 unfoldable pub after_element : List ℕ → Option (List ℕ)
 after_element text =
     let rest = skip_blank text in
@@ -76,7 +76,7 @@ module _ (value : List ℕ → Read Written) where
       let start = skip_spaces text in
       if first start == right_brace then Some ([], drop 1 start) else members (suc (length text)) total [] start
 
--- a value, with arrays and inline tables at most this deep
+-- a value, with arrays and inline tables nested to at most this depth
 unfoldable pub value : ℕ → ℕ → List ℕ → Read Written
 value zero total text = scalar total text
 value (suc depth) total text =
@@ -86,6 +86,6 @@ value (suc depth) total text =
     then option_map (whole written.InlineTable total text) (inline_table (value depth total) total (drop 1 text))
     else scalar total text
 
--- the result is the rest that is expected
+-- The result is the expected rest.
 abbrev pub GivesRest : Result (Bor (List ℕ)) ReadError → Option (List ℕ) → Type 0
 GivesRest r expected = GivesAs (λ rest. rest.now) r expected

@@ -1,4 +1,4 @@
--- What is kept of the segments before, while the first clash is looked for.
+-- The slots of the segments before, as the search for the first clash keeps them.
 use Rattle.std.specs.Prelude.{◌≡◌, ℕ, Bool, true, false, List, length, Option, Some, None, IfSome, option_map, Result}
 use Rattle.std.specs.Prelude.{Ok, Err}
 use Rattle.std.specs.BTreeMap.{get_by}
@@ -12,9 +12,9 @@ use Rattle.deny_toml_tree.specs.declared.clash.Occupant.{Occupant}
 use Rattle.deny_toml_tree.specs.declared.clash.Slots.{Slots}
 use Rattle.deny_toml_tree.specs.declared.clash.Refusal.{Refusal}
 use Rattle.deny_toml_tree.specs.declared.clash.Refusal.TheVariants.{Clash, Memory}
-use Rattle.deny_toml_tree.specs.Clash.{Segment, at_slot, roles_of, may_stand, table_of, follow}
+use Rattle.deny_toml_tree.specs.Clash.{Segment, at_slot, roles_of, may_duplicate, table_of, follow}
 
--- whether a segment may stand where the role of another decides what stands
+-- whether a segment may be at a slot where a segment of the other role decides
 abbrev pub admits : Role → Option Role → Bool
 admits role None = true
 admits HeaderPasses (Some KeySets) = false
@@ -28,42 +28,42 @@ admits KeyPasses (Some KeyPasses) = true
 admits KeyPasses (Some _) = false
 admits KeySets (Some _) = false
 
--- what is kept of a slot after a segment of this number more
+-- the occupant of a slot after one more segment with this number
 abbrev pub occupant_after : Option Occupant → Role → ℕ → Occupant
 occupant_after None role number = record { role = role; table = number }
 occupant_after (Some occupant) HeaderPasses number = occupant
 occupant_after (Some occupant) ArrayNames number = record { role = ArrayNames; table = number }
 occupant_after (Some occupant) role number = record { role = role; table = occupant.table }
 
--- what is kept of a slot
+-- the occupant of a slot
 abbrev pub occupant_at : Slots → ℕ → List ℕ → Option Occupant
 occupant_at slots table name = get_by (λ k. ordering_then (nat_cmp table k.table) (slice_cmp nat_cmp name k.name.now))
     slots.occupants
 
--- what is kept of a slot says what segments there do
-pub record TellsSlot (there : List Segment) (occupant : Option Occupant) : Type 0 where
-  pub stand : (role : Role) → may_stand role (roles_of there) ≡ admits role (option_map (λ s. s.role) occupant)
+-- The occupant of a slot describes the segments there.
+pub record ReportsSlot (there : List Segment) (occupant : Option Occupant) : Type 0 where
+  pub hold : (role : Role) → may_duplicate role (roles_of there) ≡ admits role (option_map (λ s. s.role) occupant)
   pub table : IfSome occupant (λ s. table_of there ≡ s.table)
 
--- what is kept tells of these segments
-pub record Tells (slots : Slots) (before : List Segment) : Type 0 where
+-- The slots describe these segments.
+pub record Reports (slots : Slots) (before : List Segment) : Type 0 where
   pub count : slots.segments ≡ length before
-  pub each : (table : ℕ) (name : List ℕ) → TellsSlot (at_slot table name before) (occupant_at slots table name)
+  pub each : (table : ℕ) (name : List ℕ) → ReportsSlot (at_slot table name before) (occupant_at slots table name)
 
--- segments got their slots, up to a table; or the first of them that clashes was found
+-- Segments have their slots, up to a table; or the first of them that clashes was found.
 abbrev pub Takes : Result ℕ Refusal → Slots → Result (List Segment × ℕ) Span → Type 0
-Takes (Ok table) slots expected = (now : List Segment) × (expected ≡ Ok (now, table)) × Tells slots now
+Takes (Ok table) slots expected = (now : List Segment) × (expected ≡ Ok (now, table)) × Reports slots now
 Takes (Err (Clash span)) slots expected = expected ≡ Err span
 Takes (Err Memory) slots expected = Unit {0}
 
--- the segments of a key got their slots, and its value does not clash; or the first clash of both was found
+-- The segments of a key have their slots, and its value has no clash; or the first clash of both was found.
 abbrev pub TakesKey : Result (Unit {0}) Refusal → Slots → Result (List Segment × ℕ) Span → Option Span → Type 0
 TakesKey (Ok done) slots walked inner = (now : List Segment) × (table : ℕ) × (walked ≡ Ok (now, table))
-    × (inner ≡ None) × Tells slots now
+    × (inner ≡ None) × Reports slots now
 TakesKey (Err (Clash span)) slots walked inner = follow walked Some (λ _ _. inner) ≡ Some span
 TakesKey (Err Memory) slots walked inner = Unit {0}
 
--- there is no clash, or the first was found
+-- There is no clash, or the first was found.
 abbrev pub Finds : Result (Unit {0}) Refusal → Option Span → Type 0
 Finds (Ok done) expected = expected ≡ None
 Finds (Err (Clash span)) expected = expected ≡ Some span

@@ -1,5 +1,5 @@
 use Rattle.std.proofs.Common.{◌≡◌, ◌++◌, drop, map}
-use Rattle.deny_codes.specs.Packages.{folder_key}
+use Rattle.deny_spec_report.specs.Packages.{folder_key}
 use Rattle.deny_build.proofs.file_keys.add_folder_keys.Given as goal
 
 abbrev pub invariant-loop-seen : goal.invariant-loop-seen

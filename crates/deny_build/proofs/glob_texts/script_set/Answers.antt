@@ -1,13 +1,13 @@
 use Rattle.std.proofs.Common.{◌∙◌, [], Bool, ap, arith, map, subst, sym, take, ◌+◌}
 use Rattle.std.proofs.lemmas.Simd.{map-map}
-use Rattle.deny_build_cfg.specs.BuildingView.{building_view, script_glob_view}
-use Rattle.deny_build_cfg.specs.Globs.{extension_text}
-use Rattle.deny_build_model.specs.Building.{ScriptGlob}
-use Rattle.deny_lists.specs.TextMap.{TextFinMap}
+use Rattle.deny_cfg_build.specs.BuildingView.{building_view, script_glob_view}
+use Rattle.deny_cfg_build.specs.Globs.{extension_text}
+use Rattle.deny_spec.specs.Building.{ScriptGlob}
+use Rattle.deny_base_lists.specs.TextMap.{TextFinMap}
 use Rattle.deny_build.specs.private.Globs.{IsSetOf, script_texts}
 use Rattle.deny_build.proofs.SetLemmas.{all_texts_taken, one_text_taken}
 use Rattle.deny_build.proofs.glob_texts.script_set.Goals as goal
-use Rattle.deny_model.proofs.Texts.{no_texts}
+use Rattle.deny_spec.proofs.Texts.{no_texts}
 
 pub loop-pattern-init : goal.loop-pattern-init
 loop-pattern-init c = subst (λ (set : TextFinMap Bool). IsSetOf [] set) (sym c.new-set.ensures) no_texts

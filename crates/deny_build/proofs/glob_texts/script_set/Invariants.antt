@@ -1,5 +1,5 @@
 use Rattle.std.proofs.Common.{map, take}
-use Rattle.deny_build_cfg.specs.Globs.{extension_text}
+use Rattle.deny_cfg_build.specs.Globs.{extension_text}
 use Rattle.deny_build.specs.private.Globs.{IsSetOf}
 use Rattle.deny_build.proofs.glob_texts.script_set.Given as goal
 

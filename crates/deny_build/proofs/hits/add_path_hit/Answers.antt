@@ -3,28 +3,28 @@ use Rattle.std.specs.Option.{option_copied}
 use Rattle.std.proofs.lemmas.Result.{on_ok_weaker}
 use Rattle.deny_base.specs.declared.entry.EntryKind.TheVariants.{BypassPath}
 use Rattle.deny_base.specs.declared.entry.Hit.{Hit}
-use Rattle.deny_codes.specs.Packages.{if_hit}
+use Rattle.deny_spec_report.specs.Packages.{if_hit}
 use Rattle.deny_build.specs.private.Hits.{hit_by, path_hit_in}
-use Rattle.deny_build.specs.private.Met.{MetFile, met_view}
+use Rattle.deny_build.specs.private.FileMatch.{MatchedFile, matched_view}
 use Rattle.deny_build.proofs.hits.add_path_hit.Goals as goal
 
 pub returns-in_ok-hit_by-in-Some : goal.returns-in_ok-hit_by-in-Some
 unfolding path_hit_in
 returns-in_ok-hit_by-in-Some c =
-    let range = c.args.path.now.path.span in
+    let span = c.args.path.now.path.span in
     let old = c.args.hits.now in
     on_ok_weaker c.push.result
     (λ added. added
     ∙ (ap (λ (hit : Hit). old ++ hit ∷ []) c.in_ok-hit_by-in-Some.ensures
-    ∙ ap (λ (o : Option MetFile). old ++ if_hit (option_map (hit_by BypassPath range) o))
-    (ap (λ r. option_map met_view (option_copied r)) (sym c.in-Some.is) ∙ c.first_by_path.ensures)))
+    ∙ ap (λ (o : Option MatchedFile). old ++ if_hit (option_map (hit_by BypassPath span) o))
+    (ap (λ r. option_map matched_view (option_copied r)) (sym c.in-Some.is) ∙ c.first_by_path.ensures)))
     c.push.ensures.ok
 
 pub returns-in-None : goal.returns-in-None
 unfolding path_hit_in
 returns-in-None c =
-    let range = c.args.path.now.path.span in
+    let span = c.args.path.now.path.span in
     let old = c.args.hits.now in
     sym (append-nil old)
-    ∙ ap (λ (o : Option MetFile). old ++ if_hit (option_map (hit_by BypassPath range) o))
-    (ap (λ r. option_map met_view (option_copied r)) (sym c.in-None.is) ∙ c.first_by_path.ensures)
+    ∙ ap (λ (o : Option MatchedFile). old ++ if_hit (option_map (hit_by BypassPath span) o))
+    (ap (λ r. option_map matched_view (option_copied r)) (sym c.in-None.is) ∙ c.first_by_path.ensures)

@@ -1,11 +1,11 @@
 use Rattle.std.proofs.Common.{◌∙◌, ◌++◌, ◌∷◌, [], Bor, List, ap, append-nil, option_map, sym}
 use Rattle.std.proofs.lemmas.Result.{on_ok_weaker}
 use Rattle.deny_base.specs.declared.key.Key.{Key}
-use Rattle.deny_build_cfg.specs.BuildingView.{building_view, bypass_view}
-use Rattle.deny_build_cfg.specs.declared.valid.ValidBypass.{ValidBypass}
-use Rattle.deny_codes.specs.BuildScripts.{required_enabled, used}
-use Rattle.deny_lists.proofs.Members.{from_there}
-use Rattle.deny_build.specs.private.Looked.{krate_of}
+use Rattle.deny_cfg_build.specs.BuildingView.{building_view, bypass_view}
+use Rattle.deny_cfg_build.specs.declared.valid.ValidBypass.{ValidBypass}
+use Rattle.deny_spec_report.specs.BuildScripts.{required_enabled, used}
+use Rattle.deny_base_lists.proofs.Members.{from_there}
+use Rattle.deny_build.specs.private.ScannedKrates.{krate_of}
 use Rattle.deny_build.proofs.KeyLemmas.{none_enabled, some_enabled}
 use Rattle.deny_build.proofs.script_keys.add_enabled_key.Goals as goal
 

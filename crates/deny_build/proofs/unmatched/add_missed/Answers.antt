@@ -1,10 +1,10 @@
 use Rattle.std.proofs.Common.{◌∙◌, ◌++◌, List, ap, append_assoc, map}
 use Rattle.std.proofs.lemmas.Result.{on_ok_weaker}
 use Rattle.deny_base.specs.declared.key.Key.{Key}
-use Rattle.deny_build_cfg.specs.BuildingView.{bypass_view, path_view, words_of}
-use Rattle.deny_model.specs.Policy.{Words}
-use Rattle.deny_tables.specs.declared.bans.cfg.bypass.BypassPath.{BypassPath}
-use Rattle.deny_build.specs.private.Met.{met_view}
+use Rattle.deny_cfg_build.specs.BuildingView.{bypass_view, path_view, words_of}
+use Rattle.deny_spec.specs.Policy.{SpannedText}
+use Rattle.deny_cfg_tables.specs.declared.bans.cfg.bypass.BypassPath.{BypassPath}
+use Rattle.deny_build.specs.private.FileMatch.{matched_view}
 use Rattle.deny_build.specs.private.Unmatched.{missed_glob_keys, missed_path_keys}
 use Rattle.deny_build.proofs.unmatched.add_missed.Goals as goal
 
@@ -12,7 +12,7 @@ pub returns : goal.returns
 returns c =
     let old = c.args.keys.now in
     let place = c.args.place in
-    let all = map met_view c.args.all.now in
+    let all = map matched_view c.args.all.now in
     let y = bypass_view c.args.bypass.now in
     on_ok_weaker c.add_missed_globs.result
     (λ added. added
@@ -21,6 +21,6 @@ returns c =
     ∙ ap (λ (paths : List BypassPath). old ++ missed_path_keys place all (map path_view paths)) c.as_slice.ensures)
     ∙ (append_assoc old (missed_path_keys place all y.allow)
     (missed_glob_keys place all (map words_of c.globs_of.result.now))
-    ∙ ap (λ (globs : List Words). old ++ (missed_path_keys place all y.allow ++ missed_glob_keys place all globs))
+    ∙ ap (λ (globs : List SpannedText). old ++ (missed_path_keys place all y.allow ++ missed_glob_keys place all globs))
     c.globs_of.ensures)))
     c.add_missed_globs.ensures

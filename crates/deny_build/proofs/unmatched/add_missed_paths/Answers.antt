@@ -1,14 +1,15 @@
 use Rattle.std.proofs.Common.{◌∙◌, ◌++◌, List, ap, map}
 use Rattle.std.proofs.lemmas.Result.{on_ok_weaker}
 use Rattle.deny_base.specs.declared.key.Key.{Key}
-use Rattle.deny_build_cfg.specs.BuildingView.{path_view}
-use Rattle.deny_build.specs.private.Met.{met_view}
+use Rattle.deny_cfg_build.specs.BuildingView.{path_view}
+use Rattle.deny_build.specs.private.FileMatch.{matched_view}
 use Rattle.deny_build.proofs.KeyLemmas.{missed_paths_by}
 use Rattle.deny_build.proofs.unmatched.add_missed_paths.Goals as goal
 
 pub returns : goal.returns
-returns c = on_ok_weaker c.add_missed_ranges.result
+returns c = on_ok_weaker c.add_missed_spans.result
     (λ added. added ∙ ap (λ (keys : List Key). c.args.keys.now ++ keys)
-    (missed_paths_by c.args.place (map met_view c.args.all.now) c.in_ok-firsts.firsts (map path_view c.args.paths.now)
+    (missed_paths_by c.args.place (map matched_view c.args.all.now) c.in_ok-firsts.firsts
+    (map path_view c.args.paths.now)
     c.in_ok-firsts.ensures))
-    c.add_missed_ranges.ensures
+    c.add_missed_spans.ensures

@@ -1,8 +1,8 @@
 use Rattle.std.proofs.Common.{◌≡◌, ◌++◌, drop, filter, is_some, map, not}
 use Rattle.std.specs.FinMap as finite
 use Rattle.deny_base.specs.declared.code.Code.TheVariants.{UnmatchedGlob}
-use Rattle.deny_build_cfg.specs.BuildingView.{words_of}
-use Rattle.deny_model.specs.Keys.{crate_key}
+use Rattle.deny_cfg_build.specs.BuildingView.{words_of}
+use Rattle.deny_spec.specs.Keys.{crate_key}
 use Rattle.deny_build.proofs.unmatched.add_unmatched_globs.Given as goal
 
 abbrev pub invariant-loop-pattern : goal.invariant-loop-pattern

@@ -1,5 +1,5 @@
 use Rattle.std.proofs.Common.{[], Contains}
-use Rattle.deny_lists.proofs.Adding.{adds_list, adds_then, lists_added}
+use Rattle.deny_base_lists.proofs.Adding.{adds_list, adds_then, lists_added}
 use Rattle.deny_cfg.specs.Clashes.{IsBuildClash, IsClash, clash_cmp, clashes_in}
 use Rattle.deny_cfg.proofs.clashes.ordered_clashes.Goals as goal
 

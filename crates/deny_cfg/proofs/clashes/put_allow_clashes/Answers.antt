@@ -1,9 +1,9 @@
-use Rattle.deny_lists.proofs.Filters.{filter_map-map}
+use Rattle.deny_base_lists.proofs.Filters.{filter_map-map}
 use Rattle.std.proofs.Common.{◌++◌, arith, ap, sym, ◌∙◌}
 use Rattle.deny_cfg.specs.Clashes.{clash_with, specs_of}
 use Rattle.deny_cfg.specs.declared.clash.ClashKind.TheVariants as clash
-use Rattle.deny_entries.specs.declared.reason.Reason.{Reason}
-use Rattle.deny_entries.specs.declared.spec_or_extended.PackageSpecOrExtended.{PackageSpecOrExtended}
+use Rattle.deny_cfg_entries.specs.declared.reason.Reason.{Reason}
+use Rattle.deny_cfg_entries.specs.declared.spec_or_extended.PackageSpecOrExtended.{PackageSpecOrExtended}
 use Rattle.deny_cfg.proofs.ClashLaws.{gathers_all, gathers_next}
 use Rattle.deny_cfg.proofs.FirstSpansLaws.{clash_found}
 use Rattle.deny_cfg.proofs.clashes.put_allow_clashes.Goals as goal

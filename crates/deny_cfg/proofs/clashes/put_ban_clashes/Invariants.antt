@@ -4,7 +4,7 @@ use Rattle.deny_cfg.specs.Clashes.{clash_with, is_ban, specs_of}
 use Rattle.deny_cfg.proofs.clashes.put_ban_clashes.Given as goal
 
 abbrev pub invariant-loop-entry : goal.invariant-loop-entry
-invariant-loop-entry l =
+invariant-loop-entry g l =
     l.clashes ++ filter_map (λ e. cond (is_ban e) (clash_with l.kind (specs_of l.fn.others) e.spec) None)
     (drop l.entry-index l.deny)
     ≡ l.fn.clashes ++ filter_map (λ e. cond (is_ban e) (clash_with l.kind (specs_of l.fn.others) e.spec) None) l.deny

@@ -3,7 +3,7 @@ use Rattle.std.proofs.lemmas.List.{length-append}
 use Rattle.deny_base.specs.declared.finding.Diagnostic.{Diagnostic}
 use Rattle.deny_cfg.specs.Clashes.{AreClashes}
 use Rattle.deny_cfg.specs.Deprecated.{warnings_of}
-use Rattle.deny_cfg.specs.private.Deprecated.{AreTold}
+use Rattle.deny_cfg.specs.private.Deprecated.{AreReported}
 use Rattle.deny_cfg.specs.PolicyText.{IsNoPolicy, ListsFaults}
 use Rattle.deny_cfg.specs.private.PolicyText.{AddsOnError}
 use Rattle.deny_cfg.specs.Valid.{IsValidOf}
@@ -13,8 +13,8 @@ use Rattle.deny_cfg.proofs.AddedLaws.{handed_on, memory_adds}
 use Rattle.deny_cfg.proofs.BuiltLaws.{globs_asked, older_key_lies}
 use Rattle.deny_cfg.proofs.LabelValid.{valid_are_labels}
 use Rattle.deny_cfg.proofs.LawfulLaws.{lawful, lawful_licences}
-use Rattle.deny_cfg.proofs.PolicyLaws.{first_left, gained, no_policy_of, none_added, none_before, none_told}
-use Rattle.deny_cfg.proofs.ToldLaws.{told_lie}
+use Rattle.deny_cfg.proofs.PolicyLaws.{first_left, gained, no_policy_of, none_added, none_before, none_reported}
+use Rattle.deny_cfg.proofs.ReportedLaws.{reported_lie}
 use Rattle.deny_cfg.proofs.policy.policy_of.Goals as goal
 
 pub returns-in_err-tables-clause-cause : goal.returns-in_err-tables-clause-cause
@@ -44,13 +44,14 @@ overflow_sub-clashes c =
     let config = c.in_ok-tables.tables.bans in
     let source = source_in c.args.files.now file in
     let all = c.validate.new.ctx.1.1.1.0 in
-    let told = gained (AreTold source config file) c.new-told.result all c.new-told.ensures c.in_ok-bans.ensures.told in
+    let reported = gained (AreReported source config file) c.new-reported.result all c.new-reported.ensures
+    c.in_ok-bans.ensures.reported in
     let warnings = warnings_of file config in
     omega (
       arith,
       c.len-else-len-warnings.ensures,
-      ap length told.is,
-      length-append told.clashes warnings,
+      ap length reported.is,
+      length-append reported.clashes warnings,
       c.warnings_len-warnings.ensures file,
     )
 
@@ -60,21 +61,22 @@ returns-then-len-warnings-clause-policy c =
     let file = c.args.file in
     let source = source_in c.args.files.now file in
     let all = c.validate.new.ctx.1.1.1.0 in
-    let told =
-    subst (λ text. AreTold text config file all) (sym c.requires.stands)
-    (gained (AreTold source config file) c.new-told.result all c.new-told.ensures c.in_ok-bans.ensures.told) in
+    let reported =
+    subst (λ text. AreReported text config file all) (sym c.requires.source)
+    (gained (AreReported source config file) c.new-reported.result all c.new-reported.ensures
+    c.in_ok-bans.ensures.reported) in
     let warnings = warnings_of file config in
     let none =
-    none_before told.clashes warnings all told.is
+    none_before reported.clashes warnings all reported.is
     (sym c.len.ensures ∙ (c.if-len-warnings.true ∙ c.warnings_len-warnings.ensures file)) in
     record {
       config = config;
       says = c.in_ok-tables.ensures.says;
-      no_clash = none_told c.args.text.now config file told.clashes told.are none;
+      no_clash = none_reported c.args.text.now config file reported.clashes reported.are none;
       valid =
           subst (λ number. IsValidOf config file number c.in_ok-bans.bans) c.requires.last
           c.in_ok-bans.ensures.valid;
-      warnings = told.is ∙ ap (λ (clashes : List Diagnostic). clashes ++ warnings) none;
+      warnings = reported.is ∙ ap (λ (clashes : List Diagnostic). clashes ++ warnings) none;
     }
 
 pub returns-then-len-warnings-clause-labels : goal.returns-then-len-warnings-clause-labels
@@ -108,15 +110,16 @@ returns-else-len-warnings-clause-cause c =
     let file = c.args.file in
     let source = source_in c.args.files.now file in
     let all = c.validate.new.ctx.1.1.1.0 in
-    let told =
-    subst (λ text. AreTold text config file all) (sym c.requires.stands)
-    (gained (AreTold source config file) c.new-told.result all c.new-told.ensures c.in_ok-bans.ensures.told) in
+    let reported =
+    subst (λ text. AreReported text config file all) (sym c.requires.source)
+    (gained (AreReported source config file) c.new-reported.result all c.new-reported.ensures
+    c.in_ok-bans.ensures.reported) in
     let warnings = warnings_of file config in
     let same =
-    c.first_told.ensures
-    ∙ first_left told.clashes warnings all _ told.is
+    c.first_reported.ensures
+    ∙ first_left reported.clashes warnings all _ reported.is
     (λ i. c.len-else-len-warnings.ensures i - c.warnings_len-warnings.ensures file i) in
-    let are = subst (AreClashes c.args.text.now config file) (sym same) told.are in
+    let are = subst (AreClashes c.args.text.now config file) (sym same) reported.are in
     record {
       config = config;
       licensing = c.in_ok-tables.tables.licenses;
@@ -124,11 +127,11 @@ returns-else-len-warnings-clause-cause c =
       some =
           λ none. c.if-len-warnings.false
           (c.len.ensures
-          ∙ (ap length (told.is ∙ ap (λ (clashes : List Diagnostic). clashes ++ warnings) (sym same ∙ none))
+          ∙ (ap length (reported.is ∙ ap (λ (clashes : List Diagnostic). clashes ++ warnings) (sym same ∙ none))
           ∙ sym (c.warnings_len-warnings.ensures file)));
       are = are;
       located =
-          told_lie c.args.text.now config file c.first_told.result c.utf8.text c.in_ok-tables.ensures.labels
+          reported_lie c.args.text.now config file c.first_reported.result c.utf8.text c.in_ok-tables.ensures.labels
           c.in_ok-tables.ensures.lists are;
     }
 

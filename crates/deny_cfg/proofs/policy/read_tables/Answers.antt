@@ -2,7 +2,7 @@ use Rattle.std.proofs.Common.{◌≡◌, [], List, ap, not, subst, ◌∙◌}
 use Rattle.std.specs.Prelude.{IfErr, IfOk}
 use Rattle.deny_toml.specs.Calls.{below_name}
 use Rattle.deny_toml.specs.Faults.{Reports}
-use Rattle.deny_toml.specs.declared.error.ConfigFault.{ConfigFault}
+use Rattle.deny_toml.specs.error.ConfigFault.{ConfigFault}
 use Rattle.deny_cfg.specs.PolicyText.{ReadsBans, ReadsLicensing, bans_name, licenses_name}
 use Rattle.deny_cfg.proofs.RootLaws.{no_root, ok_given, root_bans, root_faults, root_licensing}
 use Rattle.deny_cfg.proofs.policy.read_tables.Goals as goal

@@ -3,7 +3,7 @@ use Rattle.deny_toml.specs.Faults.{Reports}
 use Rattle.deny_cfg.specs.PolicyText.{faults_of_tree}
 use Rattle.deny_cfg.proofs.LabelConfig.{config_are_labels}
 use Rattle.deny_cfg.proofs.LabelLicenses.{licensing_are_labels}
-use Rattle.deny_cfg.proofs.ToldLaws.{lists_lie}
+use Rattle.deny_cfg.proofs.ReportedLaws.{lists_lie}
 use Rattle.deny_cfg.proofs.PolicyLaws.{tree_listed}
 use Rattle.deny_cfg.proofs.policy.tables_of.Goals as goal
 
@@ -24,14 +24,14 @@ returns-in-Err-Faults-clause-faults c =
 
 pub returns-in-Ok-clause-labels : goal.returns-in-Ok-clause-labels
 returns-in-Ok-clause-labels c =
-    config_are_labels c.args.text.now c.in_ok-tree.tree c.in-Ok.tables.bans c.in_ok-tree.ensures.stands
+    config_are_labels c.args.text.now c.in_ok-tree.tree c.in-Ok.tables.bans c.in_ok-tree.ensures.holds
     c.in_ok-tree.ensures.apart c.in-Ok.ensures.bans
 
 pub returns-in-Ok-clause-lists : goal.returns-in-Ok-clause-lists
 returns-in-Ok-clause-lists c =
-    lists_lie c.args.text.now c.in_ok-tree.tree c.in-Ok.tables.bans c.in_ok-tree.ensures.stands c.in-Ok.ensures.bans
+    lists_lie c.args.text.now c.in_ok-tree.tree c.in-Ok.tables.bans c.in_ok-tree.ensures.holds c.in-Ok.ensures.bans
 
 pub returns-in-Ok-clause-licence_labels : goal.returns-in-Ok-clause-licence_labels
 returns-in-Ok-clause-licence_labels c =
-    licensing_are_labels c.args.text.now c.in_ok-tree.tree c.in-Ok.tables.licenses c.in_ok-tree.ensures.stands
+    licensing_are_labels c.args.text.now c.in_ok-tree.tree c.in-Ok.tables.licenses c.in_ok-tree.ensures.holds
     c.in_ok-tree.ensures.apart c.in-Ok.ensures.licenses

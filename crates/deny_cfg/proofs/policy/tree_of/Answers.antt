@@ -1,7 +1,7 @@
 use Rattle.std.proofs.Common.{[], ◌∷◌, ap, subst, ◌∙◌}
 use Rattle.deny_toml.specs.Faults.{fault_at}
 use Rattle.deny_toml.specs.Parser.{IsCauseOf, IsFaultOf, LiesIn}
-use Rattle.deny_toml.specs.Ranges.{IsRange}
+use Rattle.deny_toml.specs.Spans.{IsSpan}
 use Rattle.deny_toml.proofs.ParserLaws.{fault_is}
 use Rattle.deny_cfg.specs.PolicyText.{ListsFaults}
 use Rattle.deny_cfg.proofs.PolicyLaws.{config_weaker, toml_listed}
@@ -15,7 +15,7 @@ returns-in-Err-Fault-clause-faults c =
     (λ faults is. toml_listed text c.in-Err-Fault.kind span faults c.utf8.text
     (fault_is (IsFaultOf text) c.in-Err-Fault.kind span
     (subst (IsCauseOf text) c.in-Err-Fault.field-0-is c.in-Err-Fault.ensures.cause))
-    (fault_is (λ _. IsRange text) c.in-Err-Fault.kind span
+    (fault_is (λ _. IsSpan text) c.in-Err-Fault.kind span
     (subst (LiesIn text) c.in-Err-Fault.field-0-is c.in-Err-Fault.ensures.lies))
     (is ∙ ap (λ k. fault_at k [] span ∷ []) c.fault_kind.ensures))
     c.of_text.ensures

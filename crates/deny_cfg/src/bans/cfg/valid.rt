@@ -1,106 +1,106 @@
-//! What `[bans]` says once it is known to hold no clash.
+//! The valid configuration of `[bans]`, as the rules take it.
 ghost use Rattle.std.specs.Prelude.{◌≡◌, ◌∷◌, ◌++◌, ◌<◌, ◌^◌, [], IfOk, OnErr, OnOk, filter, length, map};
 ghost use Rattle.std.specs.Option.{option_map_or};
-ghost use Rattle.deny_build_cfg.specs.Build.{HasFiles, IsBuildOf, files_of};
-ghost use Rattle.deny_build_cfg.specs.Globs.{OfBoth};
-ghost use Rattle.deny_lists.specs.Prefix.{Gains, GainsPrefixOf};
+ghost use Rattle.deny_cfg_build.specs.Build.{HasFiles, IsBuildOf, files_of};
+ghost use Rattle.deny_cfg_build.specs.Globs.{OfBoth};
+ghost use Rattle.deny_base_lists.specs.Prefix.{Gains, GainsPrefixOf};
 ghost use Rattle.deny_cfg.specs.Clashes.{is_ban};
-ghost use Rattle.deny_cfg.specs.private.Deprecated.{AreTold};
+ghost use Rattle.deny_cfg.specs.private.Deprecated.{AreReported};
 ghost use Rattle.deny_cfg.specs.Valid.{IsValidOf, ban_of, features_of, files_asked, is_multiple, krate_ban};
 ghost use Rattle.deny_cfg.specs.Validating.{source_in};
 
 use crate::bans::cfg::ValidTreeSkip;
-use crate::clash_told::tell_clashes;
+use crate::clash_diag::report_clashes;
 use crate::clashes::{is_ban, ordered_clashes};
-use crate::deprecated::tell_deprecated;
+use crate::deprecated::report_deprecated;
 use crate::validate::{UnvalidatedConfig, ValidationContext};
 use deny_base::{Diagnostic, FileId, Files, LintLevel, Span, Spanned};
-use deny_build_cfg::{ValidBuildConfig, build_by, older_key_by, valid_build};
-use deny_entries::{PackageSpec, PackageSpecOrExtended, Reason};
-use deny_lists::{List, NoMemory, Text};
-use deny_tables::bans::cfg::{
-    BuildConfig, Config, CrateBan, CrateBanExtended, CrateFeatures, GraphHighlight, SpecAndReason,
-    StdReplacementConfig, WorkspaceDepsConfig,
+use deny_base_lists::{List, NoMemory, Text};
+use deny_cfg_build::{ValidBuildConfig, build_by, older_key_by, valid_build};
+use deny_cfg_entries::{PackageSpec, PackageSpecOrExtended, Reason};
+use deny_cfg_tables::bans::cfg::{
+    BuildConfig, Config, CrateAllow, CrateBan, CrateBanExtended, CrateFeatures, CrateSkip,
+    GraphHighlight, StdReplacementConfig, WorkspaceDepsConfig,
 };
 use std::alloc::Global;
 
-/// What an entry that bans crates says besides its spec.
+/// What an entry that bans crates gives beside its spec.
 #[derive(Drop)]
 pub struct KrateBan {
-    /// The crates that may depend on the banned one; an empty list is as none.
+    /// The crates that may depend on the banned crate; an empty list counts as none.
     pub wrappers: Option<List<Spanned<Text>>>,
-    /// Why they are banned.
+    /// Why the crate is banned.
     pub reason: Option<Reason>,
     /// What to use in its place: a crate, or an address.
     pub use_instead: Option<Spanned<Text>>,
 }
 
-/// Which features of a crate may be enabled.
+/// The features of a crate that may be enabled.
 #[derive(Drop)]
 pub struct Features {
-    /// The features that may be enabled; where there are none, all may, unless `exact` is set: then none may.
+    /// The features that may be enabled. An empty list allows all features, but none where `exact` is set.
     pub allow: Spanned<List<Spanned<Text>>>,
-    /// The features that may not.
+    /// The features that may not be enabled.
     pub deny: List<Spanned<Text>>,
-    /// Whether exactly those of `allow` are to be enabled.
+    /// Whether exactly the features of `allow` have to be enabled.
     pub exact: Spanned<bool>,
 }
 
 /// An entry of `features`.
 #[derive(Drop)]
 pub struct ValidKrateFeatures {
-    /// The crates that it speaks of.
+    /// The crates that the entry matches.
     pub spec: PackageSpec,
-    /// Which of their features may be enabled.
+    /// The features of these crates that may be enabled.
     pub features: Features,
-    /// Why others may not.
+    /// Why other features may not be enabled.
     pub reason: Option<Reason>,
 }
 
-/// What `[bans]` says, without clashes. A field that `Config` has too means the same.
+/// The table `[bans]` as the rules take it. A field that `Config` has too means the same.
 #[derive(Drop)]
 pub struct ValidConfig {
-    /// The file whose ranges all spans are.
+    /// The file in which all spans are.
     pub file_id: FileId,
-    /// The level of crates that stand in several versions.
+    /// The level of crates that are there in several versions.
     pub multiple_versions: LintLevel,
-    /// Whether crates that are reached through dev dependencies alone count too.
+    /// Whether crates that only dev dependencies lead to count too.
     pub multiple_versions_include_dev: bool,
-    /// Which paths are shown of the crates of a duplicate.
+    /// Which paths to the crates of a duplicate are shown.
     pub highlight: GraphHighlight,
     /// The entries of `deny` that ban crates.
     pub denied: List<PackageSpecOrExtended<KrateBan>>,
-    /// The entries of `deny` that deny several versions alone, by `deny-multiple-versions`.
+    /// The specs of the entries of `deny` that deny only several versions, by `deny-multiple-versions`.
     pub denied_multiple_versions: List<PackageSpec>,
-    /// The entries of `allow`: the crates that alone are allowed; where there are none, all are.
-    pub allowed: List<SpecAndReason>,
-    /// Whether members of the workspace need no entry of `allow` and stand outside the bans.
+    /// The entries of `allow`: the crates that are allowed; an empty list allows all crates.
+    pub allowed: List<CrateAllow>,
+    /// Whether members of the workspace need no entry of `allow` and are exempt from the bans.
     pub allow_workspace: bool,
-    /// The level of the feature `default` where a crate outside the workspace has it enabled.
+    /// The level of the feature `default` where it is enabled for a crate outside the workspace.
     pub external_default_features: Option<Spanned<LintLevel>>,
-    /// The same for members of the workspace.
+    /// The level of the feature `default` where it is enabled for a member of the workspace.
     pub workspace_default_features: Option<Spanned<LintLevel>>,
-    /// Which features of which crates may be enabled.
+    /// The features that crates may have enabled.
     pub features: List<ValidKrateFeatures>,
     /// The entries of `skip`: the crates that do not count among several versions.
-    pub skipped: List<SpecAndReason>,
-    /// The entries of `skip-tree`: the crates whose trees do not.
+    pub skipped: List<CrateSkip>,
+    /// The entries of `skip-tree`: the crates that, with their dependencies, do not count among several versions.
     pub tree_skipped: List<ValidTreeSkip>,
     /// The level of a dependency whose requirement is `*`.
     pub wildcards: LintLevel,
-    /// Whether such a dependency may stand where it comes from no registry, in a private crate or as
-    /// a dev dependency.
+    /// Whether `*` is allowed for a dependency without a registry, where the dependent crate is private or the
+    /// dependency is a dev dependency.
     pub allow_wildcard_paths: bool,
-    /// How the dependencies that a workspace shares are minded; without it, not at all.
+    /// How dependencies that members of the workspace share are checked; without it they are not.
     pub workspace_dependencies: Option<WorkspaceDepsConfig>,
-    /// How crates that the standard library has replaced are minded; without it, not at all.
+    /// How crates that the standard library replaces are checked; without it they are not.
     pub std_replacements: Option<StdReplacementConfig>,
-    /// How build scripts and the files of packages are minded: by the table `build`, else by the list of
-    /// crates that may have build scripts, which is its older key; without both, not at all.
+    /// How build scripts and the files of packages are checked: by the table `build`, or by the older key
+    /// `allow-build-scripts` that stands for it; without both they are not.
     pub build: Option<ValidBuildConfig>,
 }
 
-/// What an entry that bans says, without its flag.
+/// What an entry that bans gives beside its spec, without its flag.
 fn krate_ban(said: CrateBanExtended) -> KrateBan
     ensures { result ≡ krate_ban said }
 {
@@ -120,12 +120,12 @@ fn ban_of(entry: CrateBan) -> PackageSpecOrExtended<KrateBan>
     }
 }
 
-/// Entries of `deny` by their kind.
+/// The entries of `deny` by their kind.
 #[derive(Drop)]
 struct Denied {
-    /// Those that ban.
+    /// The entries that ban.
     bans: List<PackageSpecOrExtended<KrateBan>>,
-    /// The specs of those that deny several versions alone.
+    /// The specs of the entries that deny only several versions.
     others: List<PackageSpec>,
 }
 
@@ -144,7 +144,7 @@ impl Denied {
     }
 }
 
-/// Divides the entries of `deny` into those that ban, and those that deny several versions alone.
+/// Divides the entries of `deny` into those that ban and those that deny only several versions.
 fn divided(alloc: Global, deny: List<CrateBan>) -> Result<Denied, NoMemory>
     ensures bans { IfOk result (λ parts. parts.bans ≡ map ban_of (filter is_ban deny)) }
     ensures others { IfOk result (λ parts. parts.others ≡ map (λ e. e.spec) (filter is_multiple deny)) }
@@ -186,7 +186,7 @@ fn all_features(
     Ok(all)
 }
 
-/// The table `build`, if there is one, or the one that its older key stands for.
+/// The table `build` as the rules take it, if there is one.
 fn valid_build_of(
     alloc: Global,
     build: Option<BuildConfig>,
@@ -206,15 +206,15 @@ fn valid_build_of(
     }
 }
 
-/// What rules take in another form than it is written in.
+/// The parts of a configuration that the rules take in another form than they are written in.
 struct Remade {
     denied: Denied,
     features: List<ValidKrateFeatures>,
     build: Option<ValidBuildConfig>,
 }
 
-/// What is written in these entries and in the table `build`. Where memory runs out the files are as they were, or
-/// hold those that the table asks for.
+/// The parts made of these entries and of the table `build`. When out of memory, the files are unchanged, or have
+/// those that the table asks for.
 fn remade_of(
     alloc: Global,
     deny: List<CrateBan>,
@@ -241,8 +241,8 @@ fn remade_of(
     })
 }
 
-/// A configuration without its clashes. Where memory runs out the files are as they were, or hold those that it
-/// asks for.
+/// The configuration as the rules take it. When out of memory, the files are unchanged, or have those that the
+/// configuration asks for.
 fn valid_of(
     alloc: Global,
     file_id: FileId,
@@ -283,7 +283,7 @@ fn valid_of(
     })
 }
 
-/// The text of the file of a number; nothing where it is not among the files.
+/// The text of the file of a number; empty where there is no such file.
 fn source_in(files: &Files, id: FileId) -> &str
     ensures { result.now ≡ source_in files.now id }
 {
@@ -293,25 +293,25 @@ fn source_in(files: &Files, id: FileId) -> &str
     }
 }
 
-/// Tells what clashes in a configuration that is read from the text, and behind that what is deprecated. Where
-/// memory runs out, a prefix of it was told, or nothing.
-fn tell(
+/// Reports the clashes of a configuration that is read from the text, and behind them what is deprecated. When out
+/// of memory, a prefix of these diagnostics is reported.
+fn report(
     alloc: Global,
     file: FileId,
     source: &str,
     config: &Config,
-    told: &mut List<Diagnostic>,
+    reported: &mut List<Diagnostic>,
 ) -> Result<(), NoMemory>
-    ensures ok { OnOk result (Gains (AreTold source.now config.now file) told.old told.new) }
-    ensures err { OnErr result (GainsPrefixOf (AreTold source.now config.now file) told.old told.new) }
+    ensures ok { OnOk result (Gains (AreReported source.now config.now file) reported.old reported.new) }
+    ensures err { OnErr result (GainsPrefixOf (AreReported source.now config.now file) reported.old reported.new) }
 {
     let clashes = ordered_clashes(alloc, source, config)?;
-    tell_clashes(alloc, file, clashes.as_slice(), told)?;
-    tell_deprecated(
+    report_clashes(alloc, file, clashes.as_slice(), reported)?;
+    report_deprecated(
         alloc,
         file,
         older_key_by(&config.build, &config.allow_build_scripts),
-        told,
+        reported,
     )
 }
 
@@ -320,7 +320,7 @@ impl UnvalidatedConfig for Config {
 
     ghost is_valid_of = { IsValidOf };
 
-    ghost are_told = { λ config source file told. AreTold source config file told };
+    ghost are_reported = { λ config source file reported. AreReported source config file reported };
 
     ghost files_asked = { files_asked };
 
@@ -331,7 +331,7 @@ impl UnvalidatedConfig for Config {
             files,
             diagnostics,
         } = ctx;
-        tell(alloc, cfg_id, source_in(files, cfg_id), &self, diagnostics)?;
+        report(alloc, cfg_id, source_in(files, cfg_id), &self, diagnostics)?;
         valid_of(alloc, cfg_id, files, self)
     }
 }

@@ -1,4 +1,4 @@
-use Rattle.deny_cli.proofs.ToldLemmas.{are_json_lines}
+use Rattle.deny_cli.proofs.ValueLemmas.{are_json_lines}
 use Rattle.deny_cli.proofs.laws.lines_are_json.Goals as goal
 
 pub returns : goal.returns

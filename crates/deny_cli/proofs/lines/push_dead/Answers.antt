@@ -3,7 +3,7 @@ use Rattle.std.specs.Prelude.{All}
 use Rattle.std.proofs.lemmas.Grind.{common_steps}
 use Rattle.std.proofs.lemmas.List.{take_all}
 use Rattle.std.proofs.lemmas.List.Elements.{All-more}
-use Rattle.deny_cli.specs.Told.{HasNumbers}
+use Rattle.deny_cli.specs.Values.{HasNumbers}
 use Rattle.deny_cli.proofs.lines.push_dead.Goals as goal
 
 pub loop-entry-preserved : goal.loop-entry-preserved

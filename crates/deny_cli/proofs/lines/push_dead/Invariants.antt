@@ -1,7 +1,7 @@
 use Rattle.std.proofs.Common.{◌≡◌, ◌++◌, All, drop, take}
 use Rattle.std.specs.List.{flat_map}
 use Rattle.deny_cli.specs.Lines.{dead_line}
-use Rattle.deny_cli.specs.Told.{HasNumbers}
+use Rattle.deny_cli.specs.Values.{HasNumbers}
 use Rattle.deny_cli.proofs.lines.push_dead.Given as goal
 
 abbrev pub invariant-loop-entry : goal.invariant-loop-entry

@@ -3,7 +3,7 @@ use Rattle.std.specs.Prelude.{All}
 use Rattle.std.proofs.lemmas.Grind.{common_steps}
 use Rattle.std.proofs.lemmas.List.{take_all}
 use Rattle.std.proofs.lemmas.List.Elements.{All-more}
-use Rattle.deny_cli.specs.private.Told.{IsCounted}
+use Rattle.deny_cli.specs.private.Counted.{IsCounted}
 use Rattle.deny_cli.proofs.lines.push_findings.Goals as goal
 
 pub loop-finding-preserved : goal.loop-finding-preserved

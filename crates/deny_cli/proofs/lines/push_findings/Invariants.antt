@@ -1,7 +1,7 @@
 use Rattle.std.proofs.Common.{◌≡◌, ◌++◌, All, drop, take}
 use Rattle.std.specs.List.{flat_map}
 use Rattle.deny_cli.specs.Lines.{finding_line}
-use Rattle.deny_cli.specs.private.Told.{IsCounted}
+use Rattle.deny_cli.specs.private.Counted.{IsCounted}
 use Rattle.deny_cli.proofs.lines.push_findings.Given as goal
 
 abbrev pub invariant-loop-finding : goal.invariant-loop-finding

@@ -1,6 +1,6 @@
 use Rattle.std.proofs.Common.{◌≡◌, ◌∙◌, List, ap, arith, length, sym}
 use Rattle.deny_krates.proofs.CratesLemmas.{length-crates_from}
-use Rattle.deny_model.specs.Graph.{Crate}
+use Rattle.deny_spec.specs.Graph.{Crate}
 use Rattle.deny_cli.proofs.summary.crate_count.Goals as goal
 
 pub returns-clause-count : goal.returns-clause-count

@@ -1,9 +1,9 @@
 use Rattle.std.proofs.Common.{◌++◌, ◌∷◌, [], refl, subst, sym}
-use Rattle.deny_packages.specs.Why.{AreFoldersOf}
+use Rattle.deny_build_scan.specs.Why.{AreFoldersOf}
 use Rattle.deny_spans.specs.Seen.{lock_file}
 use Rattle.deny_spans.specs.Wanted.{AreWanted}
-use Rattle.deny_unread.specs.Bound.{Folders}
-use Rattle.deny_unread.specs.Causes.{AreCaused}
+use Rattle.deny_base_unread.specs.Bound.{Folders}
+use Rattle.deny_base_unread.specs.Causes.{AreCaused}
 use Rattle.deny_gate.specs.Gating.{texts_in}
 use Rattle.deny_gate.specs.private.Gating.{IsPolicyReport, extras_of, report_with}
 use Rattle.deny_gate.specs.Unread.{of_manifests}
@@ -26,7 +26,8 @@ returns-clause-report g c =
     subst (λ (r : Report). IsPolicyReport old new policy texts r) (sym c.report_with.ensures)
     (report_by_texts old new policy texts krates (extras_of texts) c.args.files report refl c.requires.first
     c.requires.graph c.in_ok-judged.ensures.table
-    (seen_report old new policy krates (extras_of texts) first files judged.looked report c.in_ok-judged.ensures.told
+    (seen_report old new policy krates (extras_of texts) first files judged.checked report
+    c.in_ok-judged.ensures.results
     refl refl refl refl refl refl refl is.dead is.stats is.verdict))
 
 pub returns-clause-wanted : goal.returns-clause-wanted

@@ -1,26 +1,26 @@
-use Rattle.deny_gate.proofs.OneReport.{ReportLaws, by_any, by_told, by_view, nothing_failed}
+use Rattle.deny_gate.proofs.OneReport.{ReportLaws, by_any, by_files, by_view, nothing_failed}
 use Rattle.deny_gate.proofs.laws.one_report.Goals as goal
 
-pub returns-clause-told : goal.returns-clause-told
-returns-clause-told c =
+pub returns-clause-one : goal.returns-clause-one
+returns-clause-one c =
     let laws : ReportLaws = record {
       keys = c.one_report.ensures;
       unseen = c.one_unseen.ensures;
-      words = c.words_unseen.ensures;
+      words = c.message_unseen.ensures;
       policies = c.one_policy.ensures.bans;
       buildings = c.one_policy.ensures.building;
       globs = c.one_policy.ensures.globs;
       licences = c.one_policy.ensures.licences;
       sight = c.one_sight.ensures;
     } in
-    λ files texts a b this that unread failures. by_told laws files texts a b this that unread failures
+    λ files texts a b this that unread failures. by_files laws files texts a b this that unread failures
 
 pub returns-clause-by_view : goal.returns-clause-by_view
 returns-clause-by_view c =
     let laws : ReportLaws = record {
       keys = c.one_report.ensures;
       unseen = c.one_unseen.ensures;
-      words = c.words_unseen.ensures;
+      words = c.message_unseen.ensures;
       policies = c.one_policy.ensures.bans;
       buildings = c.one_policy.ensures.building;
       globs = c.one_policy.ensures.globs;
@@ -37,7 +37,7 @@ returns-clause-unseen c =
     let laws : ReportLaws = record {
       keys = c.one_report.ensures;
       unseen = c.one_unseen.ensures;
-      words = c.words_unseen.ensures;
+      words = c.message_unseen.ensures;
       policies = c.one_policy.ensures.bans;
       buildings = c.one_policy.ensures.building;
       globs = c.one_policy.ensures.globs;

@@ -1,8 +1,8 @@
 use Rattle.std.proofs.Common.{◌∙◌, ◌++◌, List, ap, subst}
 use Rattle.std.specs.Prelude.{Contains}
-use Rattle.deny_lists.specs.Ascending.{Lists}
-use Rattle.deny_unread.specs.Unread.{unread_cmp}
-use Rattle.deny_unread.specs.declared.unread.Unread.{Unread}
+use Rattle.deny_base_lists.specs.Ascending.{Lists}
+use Rattle.deny_base.specs.Unread.{unread_cmp}
+use Rattle.deny_base.specs.declared.unread.Unread.{Unread}
 use Rattle.deny_gate.proofs.unread.joined_unread.Goals as goal
 
 pub returns : goal.returns

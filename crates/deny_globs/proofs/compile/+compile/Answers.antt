@@ -1,6 +1,6 @@
 use Rattle.std.proofs.Common.{arith}
 use Rattle.std.proofs.lemmas.Result.{IfOk-weaker}
-use Rattle.deny_lists.proofs.Results.{on_err_always, on_err_then}
+use Rattle.deny_base_lists.proofs.Results.{on_err_always, on_err_then}
 use Rattle.deny_globs.proofs.BuildLemmas.{built_character, built_any_character, built_any_text, built_alternatives}
 use Rattle.deny_globs.proofs.BuildLemmas.{built_beside, built_next, built_back, built_for, built_over_same, grows_on}
 use Rattle.deny_globs.proofs.BuildLemmas.{grows_same}

@@ -12,7 +12,7 @@ abbrev pub invariant-compile_one-loop-alternative : goal.invariant-compile_one-l
 invariant-compile_one-loop-alternative l = IsBuiltOver (take l.alternative-index l.alternatives) l.next
     l.fn.states.items l.states.items l.start
 
--- the depth of what is left to compile, and which of the functions is at it
+-- the depth of the tokens left to compile, and which of the functions is at them
 
 abbrev pub decreases-compile_token : goal.decreases-compile_token
 decreases-compile_token l = 4 * goal.size-compile_token l

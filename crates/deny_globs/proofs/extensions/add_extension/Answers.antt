@@ -6,13 +6,10 @@ use Rattle.deny_globs.specs.private.Index.{numbered, inserted}
 use Rattle.deny_globs.specs.private.Index.{IsGap}
 use Rattle.deny_globs.proofs.extensions.add_extension.Goals as goal
 
-pub find_uncounted-requires-clause-whole : goal.find_uncounted-requires-clause-whole
-find_uncounted-requires-clause-whole c = omega (arith, c.new.ensures)
-
 pub push_number-requires : goal.push_number-requires
 push_number-requires c =
     let at = c.in-Ok.ensures.found in
-    omega (arith, slice_get_within c.deref.result.now c.in-Ok.index at.extension at.at, ap length c.deref.ensures.value)
+    omega (arith, slice_get_within c.deref.result.now c.in-Ok.index at.named at.at, ap length c.deref.ensures.value)
 
 pub returns-in-Ok-clause-ok : goal.returns-in-Ok-clause-ok
 returns-in-Ok-clause-ok c =

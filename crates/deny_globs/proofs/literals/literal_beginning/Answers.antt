@@ -3,7 +3,7 @@ use Rattle.deny_globs.proofs.LiteralLemmas.{drop_token, read_none, read_one, beg
 use Rattle.deny_globs.proofs.literals.literal_beginning.Goals as goal
 
 pub loop-token-init : goal.loop-token-init
-loop-token-init c = read_none c.args.tokens.now c.new-word.ensures.items
+loop-token-init c = read_none c.args.tokens.now c.new-literal.ensures.items
 
 pub loop-token-preserved : goal.loop-token-preserved
 loop-token-preserved c =

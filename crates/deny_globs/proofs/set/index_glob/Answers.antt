@@ -1,6 +1,6 @@
 use Rattle.std.proofs.Common.{arith, ap, drop, length, length-drop, sym, ◌∙◌, ◌-◌}
 use Rattle.std.proofs.lemmas.Result.{on_ok_weaker}
-use Rattle.deny_lists.proofs.Results.{on_err_always}
+use Rattle.deny_base_lists.proofs.Results.{on_err_always}
 use Rattle.deny_globs.specs.Sets.{is_simple}
 use Rattle.deny_globs.proofs.MarkedLemmas.{take_all}
 use Rattle.deny_globs.proofs.StartLemmas.{starts_stay}

@@ -3,7 +3,8 @@ use Rattle.std.proofs.lemmas.Result.{on_ok_weaker}
 use Rattle.deny_globs.specs.private.Index.{globs_of}
 use Rattle.std.specs.Prelude.{Contains}
 use Rattle.deny_globs.specs.private.Walk.{Notes}
-use Rattle.deny_globs.proofs.SetLemmas.{named_at, named_bound, notes_named, notes_gap}
+use Rattle.deny_base_lists.proofs.SearchLemmas.{named_at}
+use Rattle.deny_globs.proofs.SetLemmas.{named_bound, notes_named, notes_gap}
 use Rattle.deny_globs.proofs.set.note_named.Goals as goal
 
 pub returns-in-Ok-clause-steps : goal.returns-in-Ok-clause-steps

@@ -1,6 +1,6 @@
 use Rattle.std.proofs.Common.{arith, drop, length, length-drop, refl, sym, subst, ◌∙◌, ◌-◌}
 use Rattle.std.proofs.lemmas.Result.{on_ok_weaker}
-use Rattle.deny_lists.proofs.Options.{none_is_no_some, some_inj}
+use Rattle.deny_base_lists.proofs.Options.{none_is_no_some, some_inj}
 use Rattle.deny_globs.specs.Sets.{AsksFor}
 use Rattle.deny_globs.specs.private.Walk.{Notes}
 use Rattle.deny_globs.proofs.MarkedLemmas.{take_all}

@@ -1,5 +1,5 @@
 use Rattle.std.proofs.lemmas.Result.{on_ok_weaker}
-use Rattle.deny_lists.proofs.Results.{on_err_always}
+use Rattle.deny_base_lists.proofs.Results.{on_err_always}
 use Rattle.deny_globs.proofs.BuildLemmas.{grows_on, grows_push}
 use Rattle.deny_globs.proofs.SetLemmas.{adds_states}
 use Rattle.deny_globs.proofs.StartLemmas.{starts_stay}

@@ -1,7 +1,7 @@
 use Rattle.std.proofs.Common.{arith, ap, length, refl, sym, subst}
 use Rattle.std.specs.Prelude.{Contains}
 use Rattle.std.proofs.lemmas.List.Elements.{Contains-get_or}
-use Rattle.deny_lists.proofs.Members.{contains_none}
+use Rattle.deny_base_lists.proofs.Members.{contains_none}
 use Rattle.deny_globs.proofs.MarkedLemmas.{starts_only, starts_all, take_all}
 use Rattle.deny_globs.proofs.walk.mark_starts.Goals as goal
 

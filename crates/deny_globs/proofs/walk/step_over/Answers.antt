@@ -3,8 +3,8 @@ use Rattle.std.specs.Prelude.{nat_eq}
 use Rattle.deny_globs.specs.Class.{class_takes}
 use Rattle.deny_globs.specs.private.Walk.{first_passes}
 use Rattle.std.proofs.lemmas.Result.{on_ok_weaker}
-use Rattle.deny_globs.specs.declared.state.State.TheVariants.{End, Character, AnyCharacter, OneOf, AnyText, Either}
-use Rattle.deny_globs.specs.declared.state.State.TheVariants.{Never}
+use Rattle.deny_globs.specs.declared.state.GlobState.TheVariants.{End, Character, AnyCharacter, OneOf, AnyText, Either}
+use Rattle.deny_globs.specs.declared.state.GlobState.TheVariants.{Never}
 use Rattle.deny_globs.proofs.MarkedLemmas.{marks_same}
 use Rattle.deny_globs.proofs.WalkLemmas.{state_at, steps_over_none, steps_over_character, steps_over_any_character}
 use Rattle.deny_globs.proofs.WalkLemmas.{steps_over_class, steps_over_any_text, steps_over_either}

@@ -1,13 +1,13 @@
 use Rattle.std.proofs.Common.{◌≡◌, ◌<◌, ◌∙◌, ◌++◌, ℕ, List, Some, ap, arith, filter, length, map, refl, subst, sym}
 use Rattle.std.proofs.lemmas.Option.{same_Some}
-use Rattle.deny_lists.proofs.Members.{some_at}
-use Rattle.deny_crate_graph.specs.Crates.{crate_view}
+use Rattle.deny_base_lists.proofs.Members.{some_at}
+use Rattle.deny_krates_graph.specs.Crates.{crate_view}
 use Rattle.deny_krates.specs.Nodes.{feature_leads}
 use Rattle.deny_krates.specs.private.Sources.{is_led_over, parent_in}
 use Rattle.deny_krates.proofs.NodeLemmas.{as_many, crate_of_krate, crate_read}
 use Rattle.deny_krates.proofs.ParentLemmas.{filter_same, led_answer}
 use Rattle.deny_krates.proofs.incoming.add_features.Goals as goal
-use Rattle.deny_model.specs.Graph.{Crate}
+use Rattle.deny_spec.specs.Graph.{Crate}
 
 pub bounds-krates-parent : goal.bounds-krates-parent
 bounds-krates-parent c = omega (arith, as_many c.krates.result.now c.args.krates.now c.krates.ensures.crates)

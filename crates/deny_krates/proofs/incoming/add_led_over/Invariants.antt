@@ -1,5 +1,5 @@
 use Rattle.std.proofs.Common.{◌≡◌, ◌++◌, Some, drop, filter, map}
-use Rattle.deny_crate_graph.specs.Crates.{crate_view}
+use Rattle.deny_krates_graph.specs.Crates.{crate_view}
 use Rattle.deny_krates.specs.private.Sources.{is_led_over, parent_in}
 use Rattle.deny_krates.proofs.incoming.add_led_over.Given as goal
 

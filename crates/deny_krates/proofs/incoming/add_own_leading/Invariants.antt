@@ -1,5 +1,5 @@
 use Rattle.std.proofs.Common.{◌≡◌, ◌++◌, None, Some, drop, filter, map}
-use Rattle.deny_crate_graph.specs.Crates.{crate_view}
+use Rattle.deny_krates_graph.specs.Crates.{crate_view}
 use Rattle.deny_krates.specs.Nodes.{holds_plain}
 use Rattle.deny_krates.specs.private.Sources.{parent_in}
 use Rattle.deny_krates.proofs.incoming.add_own_leading.Given as goal

@@ -1,13 +1,13 @@
 use Rattle.std.proofs.Common.{◌≡◌, ◌<◌, ◌∙◌, true, ap, arith, length, refl, subst, sym}
 use Rattle.std.proofs.lemmas.Option.{same_Some}
-use Rattle.deny_lists.proofs.Members.{some_at}
-use Rattle.deny_crate_graph.specs.Crates.{crate_view}
+use Rattle.deny_base_lists.proofs.Members.{some_at}
+use Rattle.deny_krates_graph.specs.Crates.{crate_view}
 use Rattle.deny_krates.specs.Nodes.{has_edge, leads_by_asking}
-use Rattle.deny_crate_graph.specs.declared.krate.Krate.{Krate}
+use Rattle.deny_krates_graph.specs.declared.krate.Krate.{Krate}
 use Rattle.deny_krates.proofs.NodeLemmas.{as_many, crate_of_krate, crate_read, placed}
 use Rattle.deny_krates.proofs.ParentLemmas.{edge_at, no_edge_to_feature, to_feature_answer}
 use Rattle.deny_krates.proofs.incoming.leads_by_asking.Goals as goal
-use Rattle.deny_model.specs.Graph.{Crate}
+use Rattle.deny_spec.specs.Graph.{Crate}
 
 pub returns-then-not-has_edge : goal.returns-then-not-has_edge
 returns-then-not-has_edge c x p x_at p_at =

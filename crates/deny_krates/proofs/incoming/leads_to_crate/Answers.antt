@@ -1,13 +1,13 @@
 use Rattle.std.proofs.Common.{◌≡◌, ◌<◌, ◌∙◌, Some, true, ap, arith, length, refl, subst, sym}
 use Rattle.std.specs.Prelude.{◌||◌}
 use Rattle.std.proofs.lemmas.Option.{same_Some, slice_get-get_or}
-use Rattle.deny_crate_graph.specs.Crates.{crate_view}
+use Rattle.deny_krates_graph.specs.Crates.{crate_view}
 use Rattle.deny_krates.specs.Nodes.{has_edge, leads_in_vain, leads_undeclared}
-use Rattle.deny_crate_graph.specs.declared.krate.Krate.{Krate}
+use Rattle.deny_krates_graph.specs.declared.krate.Krate.{Krate}
 use Rattle.deny_krates.proofs.NodeLemmas.{as_many, crate_read, enabled_ascend, placed}
 use Rattle.deny_krates.proofs.ParentLemmas.{edge_at, no_edge_to_crate, to_crate_answer}
 use Rattle.deny_krates.proofs.incoming.leads_to_crate.Goals as goal
-use Rattle.deny_model.specs.Graph.{Crate}
+use Rattle.deny_spec.specs.Graph.{Crate}
 
 pub returns-then-not-has_edge : goal.returns-then-not-has_edge
 returns-then-not-has_edge c x p x_at p_at =

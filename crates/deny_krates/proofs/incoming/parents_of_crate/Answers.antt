@@ -3,12 +3,12 @@ use Rattle.std.specs.List.{flat_map}
 use Rattle.std.proofs.lemmas.List.{get_or_default}
 use Rattle.std.proofs.lemmas.Option.{slice_get-get_or, slice_get_within}
 use Rattle.deny_base.specs.declared.edge.DepKind.TheVariants.{Normal}
-use Rattle.deny_lists.proofs.Members.{from_there}
-use Rattle.deny_crate_graph.specs.Dependents.{AreDirectDependents}
+use Rattle.deny_base_lists.proofs.Members.{from_there}
+use Rattle.deny_krates_graph.specs.Dependents.{AreDirectDependents}
 use Rattle.deny_krates.specs.Nodes.{own_features, sources_at, sources_of_crate}
 use Rattle.deny_krates.specs.private.Sources.{parent_of}
 use Rattle.deny_krates.specs.declared.incoming.Parent.{Parent}
-use Rattle.deny_crate_graph.specs.declared.krate.DirectDependent.{DirectDependent}
+use Rattle.deny_krates_graph.specs.declared.krate.DirectDependent.{DirectDependent}
 use Rattle.deny_krates.proofs.NodeLemmas.{as_many, crate_read, placed}
 use Rattle.deny_krates.proofs.ParentLemmas.{own_first}
 use Rattle.deny_krates.proofs.RowLemmas.{parents_done, row_inside, row_more, row_parents, rows_done}

@@ -5,7 +5,7 @@ use Rattle.deny_krates.specs.Nodes.{own_features, sources_of_crate}
 use Rattle.deny_krates.specs.private.Sources.{parent_of}
 use Rattle.deny_krates.proofs.RowLemmas.{row_parents}
 use Rattle.deny_krates.proofs.incoming.parents_of_crate.Given as goal
-use Rattle.deny_model.specs.Graph.{Crate}
+use Rattle.deny_spec.specs.Graph.{Crate}
 
 abbrev pub invariant-loop-direct : goal.invariant-loop-direct
 invariant-loop-direct l = (x : Crate) → slice_get l.krates.crates l.place ≡ Some x

@@ -1,10 +1,10 @@
 use Rattle.std.proofs.Common.{◌≡◌, ◌<◌, ◌∙◌, ◌++◌, ◌∷◌, [], None, Some, arith, length, subst, sym}
 use Rattle.std.proofs.lemmas.Option.{same_Some}
-use Rattle.deny_crate_graph.specs.Crates.{crate_view}
+use Rattle.deny_krates_graph.specs.Crates.{crate_view}
 use Rattle.deny_krates.specs.private.Sources.{parent_in}
 use Rattle.deny_krates.proofs.NodeLemmas.{as_many, crate_read}
 use Rattle.deny_krates.proofs.incoming.push_crate.Goals as goal
-use Rattle.deny_model.specs.Graph.{Crate}
+use Rattle.deny_spec.specs.Graph.{Crate}
 
 pub bounds-krates-place : goal.bounds-krates-place
 bounds-krates-place c = omega (arith, as_many c.krates.result.now c.args.krates.now c.krates.ensures.crates)

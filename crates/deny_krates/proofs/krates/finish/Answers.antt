@@ -2,14 +2,14 @@ use Rattle.std.proofs.Common.{◌≡◌, ◌<◌, ◌^◌, ◌∙◌, ap, sym, L
 use Rattle.std.specs.Cmp.Lexicographic.{slice_cmp}
 use Rattle.std.specs.List.Sorted.{IsSortedByKey, IsStrictlySortedBy}
 use Rattle.std.specs.Ordering.{nat_cmp}
-use Rattle.deny_model.specs.TargetEdge.{target_edge_cmp}
-use Rattle.deny_model.specs.declared.target_edge.TargetEdge.{TargetEdge}
-use Rattle.deny_crate_graph.specs.Bounds.{node_count}
-use Rattle.deny_crate_graph.specs.Crates.{crates_from}
-use Rattle.deny_crate_graph.specs.Read.{graph_read}
+use Rattle.deny_spec.specs.TargetEdge.{target_edge_cmp}
+use Rattle.deny_spec.specs.declared.target_edge.TargetEdge.{TargetEdge}
+use Rattle.deny_krates_graph.specs.Bounds.{node_count}
+use Rattle.deny_krates_graph.specs.Crates.{crates_from}
+use Rattle.deny_krates_graph.specs.Read.{graph_read}
 use Rattle.deny_krates.specs.private.NodeNumbers.{features_from}
-use Rattle.deny_crate_graph.proofs.CratesLemmas.{length-crates_from}
-use Rattle.deny_crate_graph.specs.declared.krate.Krate.{Krate}
+use Rattle.deny_krates_graph.proofs.CratesLemmas.{length-crates_from}
+use Rattle.deny_krates_graph.specs.declared.krate.Krate.{Krate}
 use Rattle.deny_krates.proofs.krates.finish.Goals as goal
 
 pub invariant_of-result : goal.invariant_of-result

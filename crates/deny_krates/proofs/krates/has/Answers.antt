@@ -1,5 +1,5 @@
 use Rattle.deny_base.specs.Edge.{edge_cmp}
-use Rattle.deny_crate_graph.proofs.SearchLemmas.{search_finds}
+use Rattle.deny_krates_graph.proofs.SearchLemmas.{search_finds}
 use Rattle.deny_krates.proofs.krates.has.Goals as goal
 
 pub returns : goal.returns

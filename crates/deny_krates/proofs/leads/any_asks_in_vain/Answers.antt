@@ -1,17 +1,17 @@
 use Rattle.std.proofs.Common.{◌≡◌, ◌∙◌, List, ℕ, Bool, map, refl, sym, subst}
 use Rattle.std.specs.Prelude.{◌&&◌, slice_index_or}
 use Rattle.std.proofs.lemmas.List.{get_or_default}
-use Rattle.deny_crate_graph.specs.Crates.{crate_view, dependency_view}
+use Rattle.deny_krates_graph.specs.Crates.{crate_view, dependency_view}
 use Rattle.deny_krates.specs.Nodes.{asks_in_vain, is_enabled, is_of_kind}
 use Rattle.deny_krates.specs.private.Sources.{asks_for_none, passes_there}
 use Rattle.deny_krates.specs.declared.resolved.ResolvedAt.{ResolvedAt}
 use Rattle.deny_base.specs.declared.edge.DepKind.{DepKind}
-use Rattle.deny_crate_graph.specs.declared.krate.Krate.{Krate}
+use Rattle.deny_krates_graph.specs.declared.krate.Krate.{Krate}
 use Rattle.deny_krates.proofs.LeadLemmas.{any_more, any_stopped}
 use Rattle.deny_krates.proofs.leads.any_asks_in_vain.Goals as goal
-use Rattle.deny_model.specs.Graph.{Dependency}
+use Rattle.deny_spec.specs.Graph.{Dependency}
 
--- the same in the words of the crate
+-- the test of a declaration, with the enabled features of the crate in code
 in_vain : (ds : List Dependency) (kind : DepKind) (k : Krate) (enabled : List (List ℕ)) (r : ResolvedAt) (b : Bool)
     → enabled ≡ k.enabled → b ≡ passes_there ds (λ d. is_of_kind kind d && asks_for_none enabled d) r
     → passes_there ds (λ d. is_of_kind kind d && asks_in_vain (crate_view 0 k) d) r ≡ b

@@ -1,5 +1,5 @@
 use Rattle.std.proofs.Common.{◌≡◌, drop, map}
-use Rattle.deny_crate_graph.specs.Crates.{crate_view, dependency_view}
+use Rattle.deny_krates_graph.specs.Crates.{crate_view, dependency_view}
 use Rattle.deny_krates.specs.Nodes.{asks_in_vain}
 use Rattle.deny_krates.specs.private.Sources.{any_there}
 use Rattle.deny_krates.proofs.leads.any_asks_in_vain.Given as goal

@@ -4,7 +4,7 @@ use Rattle.std.specs.Ordering.{nat_cmp}
 use Rattle.std.proofs.lemmas.Fn.{always_returns_same}
 use Rattle.std.proofs.lemmas.List.Sorted.{searchable_from_sorted}
 use Rattle.deny_krates.proofs.LeadLemmas.{text_found, text_missing}
-use Rattle.deny_crate_graph.proofs.SearchLemmas.{sorted_from_strict}
+use Rattle.deny_krates_graph.proofs.SearchLemmas.{sorted_from_strict}
 use Rattle.deny_krates.proofs.leads.index_of.Goals as goal
 
 pub returns-in-Ok-clause-found : goal.returns-in-Ok-clause-found

@@ -1,5 +1,5 @@
 use Rattle.std.proofs.Common.{◌∙◌, false, true, arith, refl, sym}
-use Rattle.deny_crate_graph.specs.Crates.{dependency_view}
+use Rattle.deny_krates_graph.specs.Crates.{dependency_view}
 use Rattle.deny_krates.specs.Nodes.{is_called}
 use Rattle.deny_krates.proofs.LeadLemmas.{led_over, not_led_over}
 use Rattle.deny_krates.proofs.leads.leads_over.Goals as goal

@@ -2,7 +2,7 @@ use Rattle.std.proofs.Common.{rules}
 use Rattle.std.proofs.lemmas.List.Sorted.{IsPartitionPoint-from_clause, searchable_from_sorted}
 use Rattle.std.specs.Cmp.Lexicographic.{slice_cmp, nat_list_cmp_total}
 use Rattle.std.specs.Ordering.{nat_cmp, is_le}
-use Rattle.deny_lists.proofs.Orders.{partitioned_le}
+use Rattle.deny_base_lists.proofs.Orders.{partitioned_le}
 use Rattle.deny_krates.proofs.names.first_above.Goals as goal
 
 pub returns-clause-point : goal.returns-clause-point

@@ -8,12 +8,12 @@ use Rattle.std.specs.Ordering.{nat_cmp}
 use Rattle.std.proofs.lemmas.Option.{slice_get-get_or}
 use Rattle.deny_krates.specs.private.NodeNumbers.{first_features_of}
 use Rattle.deny_krates.specs.Nodes.{nodes_of}
-use Rattle.deny_crate_graph.specs.declared.krate.Krate.{Krate}
+use Rattle.deny_krates_graph.specs.declared.krate.Krate.{Krate}
 use Rattle.deny_krates.proofs.NodeLemmas.{as_many, enabled_ascend, feature_within, no_feature, nodes_few}
 use Rattle.deny_krates.proofs.NodeLemmas.{number_of_feature}
 use Rattle.deny_krates.proofs.NumberLemmas.{length-first_features}
 use Rattle.deny_krates.proofs.nodes.feature_node.Goals as goal
-use Rattle.deny_model.specs.Text.{same_text}
+use Rattle.deny_spec.specs.Text.{same_text}
 
 if_none : {A : Type 0} (P : Type 0) (r : Option A) → P → IfNone r P
 if_none P None holds = holds

@@ -5,9 +5,9 @@ use Rattle.deny_krates.specs.Nodes.{sources_at}
 use Rattle.deny_krates.specs.private.Sources.{parent_of}
 use Rattle.deny_krates.specs.declared.incoming.Parent.{Parent}
 use Rattle.deny_krates.proofs.nodes.parents_of.Goals as goal
-use Rattle.deny_model.specs.Graph.{Crate, Graph}
+use Rattle.deny_spec.specs.Graph.{Crate, Graph}
 
--- what is said of the parents of a node
+-- the clause of the call, for a graph
 abbrev Answers : Graph → ℕ → Option (List ℕ) → List Parent → Type 0
 Answers g place feature parents = (c : Crate) → slice_get g.crates place ≡ Some c → (p : Parent)
     → Contains parents p ↔ Contains (map (parent_of g) (sources_at g feature c)) p

@@ -1,6 +1,6 @@
 use Rattle.std.proofs.Common.{◌≡◌, ◌+◌, ◌++◌, drop, length}
-use Rattle.deny_crate_graph.specs.Bounds.{node_count}
-use Rattle.deny_crate_graph.specs.Crates.{crates_from}
+use Rattle.deny_krates_graph.specs.Bounds.{node_count}
+use Rattle.deny_krates_graph.specs.Crates.{crates_from}
 use Rattle.deny_krates.specs.private.NodeNumbers.{features_from}
 use Rattle.deny_krates.proofs.NumberLemmas.{feature_count}
 use Rattle.deny_krates.proofs.numbers.first_features.Given as goal

@@ -1,9 +1,9 @@
 use Rattle.std.proofs.Common.{◌∙◌, ap, List}
 use Rattle.std.specs.Prelude.{slice_get}
 use Rattle.std.specs.Option.{option_and_then}
-use Rattle.deny_crate_graph.specs.Crates.{crates_from}
-use Rattle.deny_crate_graph.specs.declared.krate.Dependency.{Dependency}
-use Rattle.deny_model.specs.Graph.{Crate}
+use Rattle.deny_krates_graph.specs.Crates.{crates_from}
+use Rattle.deny_krates_graph.specs.declared.krate.Dependency.{Dependency}
+use Rattle.deny_spec.specs.Graph.{Crate}
 use Rattle.deny_krates.proofs.GetLemmas.{got}
 use Rattle.deny_krates.proofs.ResolutionLemmas.{declaration_got, no_declaration}
 use Rattle.deny_krates.proofs.resolution.declared.Goals as goal

@@ -1,6 +1,6 @@
 use Rattle.std.proofs.Common.{◌≡◌, drop, find}
-use Rattle.deny_crate_graph.specs.Crates.{crates_from, dependency_view}
-use Rattle.deny_model.specs.Resolution.{suits}
+use Rattle.deny_krates_graph.specs.Crates.{crates_from, dependency_view}
+use Rattle.deny_spec.specs.Resolution.{suits}
 use Rattle.deny_krates.proofs.resolution.first_suiting.Given as goal
 
 abbrev pub invariant-loop-edge : goal.invariant-loop-edge

@@ -1,7 +1,7 @@
 use Rattle.std.proofs.Common.{◌≡◌, drop, find}
 use Rattle.std.specs.Prelude.{◌&&◌}
-use Rattle.deny_crate_graph.specs.Crates.{crates_from, dependency_view}
-use Rattle.deny_model.specs.Resolution.{is_wanted, suits}
+use Rattle.deny_krates_graph.specs.Crates.{crates_from, dependency_view}
+use Rattle.deny_spec.specs.Resolution.{is_wanted, suits}
 use Rattle.deny_krates.proofs.resolution.first_wanted.Given as goal
 
 abbrev pub invariant-loop-edge : goal.invariant-loop-edge

@@ -1,10 +1,10 @@
 use Rattle.std.proofs.Common.{◌≡◌, ◌≤◌, ◌<◌, ◌∙◌, ℕ, List, true, ap, subst, sym}
 use Rattle.std.specs.Prelude.{find, option_map}
 use Rattle.std.specs.Option.{option_or}
-use Rattle.deny_crate_graph.specs.Crates.{crates_from, dependency_view}
-use Rattle.deny_model.specs.Groups.{has_name}
-use Rattle.deny_model.specs.Resolution.{passes_at, suits}
-use Rattle.deny_model.specs.declared.target_edge.TargetEdge.{TargetEdge}
+use Rattle.deny_krates_graph.specs.Crates.{crates_from, dependency_view}
+use Rattle.deny_spec.specs.Groups.{has_name}
+use Rattle.deny_spec.specs.Resolution.{passes_at, suits}
+use Rattle.deny_spec.specs.declared.target_edge.TargetEdge.{TargetEdge}
 use Rattle.deny_krates.proofs.ResolutionLemmas.{resolution_is}
 use Rattle.deny_krates.proofs.resolution.resolution.Goals as goal
 

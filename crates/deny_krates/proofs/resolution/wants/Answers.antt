@@ -4,7 +4,7 @@ use Rattle.semver.specs.EvalViews.{matches_views}
 use Rattle.semver.specs.Identifiers.{comparator_view}
 use Rattle.std.specs.Option.{option_map_or}
 use Rattle.std.specs.Prelude.{false}
-use Rattle.deny_model.specs.Graph.{Crate}
+use Rattle.deny_spec.specs.Graph.{Crate}
 use Rattle.deny_krates.proofs.resolution.wants.Goals as goal
 
 pub returns-in-Some : goal.returns-in-Some

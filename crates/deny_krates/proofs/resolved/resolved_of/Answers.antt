@@ -1,6 +1,6 @@
 use Rattle.std.proofs.Common.{◌∙◌, List, ap, subst, sym}
 use Rattle.std.specs.Prelude.{Contains}
-use Rattle.deny_lists.specs.Ascending.{Lists}
+use Rattle.deny_base_lists.specs.Ascending.{Lists}
 use Rattle.deny_krates.specs.private.Resolved.{resolved_cmp, resolved_in}
 use Rattle.deny_krates.specs.declared.resolved.ResolvedAt.{ResolvedAt}
 use Rattle.deny_krates.proofs.resolved.resolved_of.Goals as goal

@@ -1,6 +1,6 @@
 use Rattle.std.proofs.Common.{List, ap, ◌++◌, ◌∙◌}
 use Rattle.deny_base.specs.declared.entry.Hit.{Hit}
-use Rattle.deny_codes.specs.StdReplacements.{ignore_hits_in}
+use Rattle.deny_spec_report.specs.StdReplacements.{ignore_hits_in}
 use Rattle.deny_rules.proofs.CheckLemmas.{hits_then}
 use Rattle.deny_rules.proofs.check.hits_found.Goals as goal
 

@@ -1,11 +1,11 @@
 use Rattle.std.proofs.Common.{◌+◌, ◌≤◌, length, take}
 use Rattle.std.specs.List.{sum_by}
-use Rattle.deny_outside.specs.Disk.{IsLater}
-use Rattle.deny_outside.specs.Read.{GaveAtMost}
+use Rattle.deny_base_disk.specs.Disk.{IsLater}
+use Rattle.deny_base_disk.specs.Read.{GaveAtMost}
 use Rattle.deny_spans.specs.Wanted.{bytes_of}
 use Rattle.deny_spans.specs.private.Gathered.{IsGathered}
-use Rattle.deny_unread.specs.Bound.{Folders}
-use Rattle.deny_unread.specs.Causes.{AreCaused}
+use Rattle.deny_base_unread.specs.Bound.{Folders}
+use Rattle.deny_base_unread.specs.Causes.{AreCaused}
 use Rattle.deny_spans.proofs.gathered.gather.Given as goal
 
 abbrev pub invariant-loop-place : goal.invariant-loop-place

@@ -1,6 +1,6 @@
 use Rattle.std.proofs.Common.{◌∙◌, ◌++◌, ◌∷◌, [], ap}
 use Rattle.deny_krates.specs.Crates.{crate_view}
-use Rattle.deny_spans.proofs.LookLemmas.{file_of}
+use Rattle.deny_spans.proofs.ManifestScanLemmas.{file_of}
 use Rattle.deny_spans.proofs.KeepLemmas.{kept_is, kept_none}
 use Rattle.deny_spans.proofs.gathered.keep.Goals as goal
 

@@ -1,5 +1,5 @@
 use Rattle.std.proofs.Common.{List, Option, subst, sym, ℕ}
-use Rattle.deny_outside.proofs.PieceLemmas.{gave_then}
+use Rattle.deny_base_disk.proofs.PieceLemmas.{gave_then}
 use Rattle.deny_spans.proofs.CountLemmas.{caused_more}
 use Rattle.deny_spans.proofs.FoundLemmas.{found_by, home_short, unread_behind}
 use Rattle.deny_spans.proofs.krate_spans.find_manifests.Goals as goal

@@ -1,6 +1,6 @@
 use Rattle.std.proofs.Common.{◌≡◌, ap, arith, length}
 use Rattle.deny_krates.proofs.CratesLemmas.{length-crates_from}
-use Rattle.deny_workspace.proofs.WorkspaceLemmas.{no_spans_all}
+use Rattle.deny_spans_workspace.proofs.WorkspaceLemmas.{no_spans_all}
 use Rattle.deny_spans.proofs.workspace.no_shared.Goals as goal
 
 pub returns-clause-spans : goal.returns-clause-spans

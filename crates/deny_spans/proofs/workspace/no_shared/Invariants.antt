@@ -1,4 +1,4 @@
-use Rattle.deny_workspace.proofs.WorkspaceLemmas.{AreNone}
+use Rattle.deny_spans_workspace.proofs.WorkspaceLemmas.{AreNone}
 use Rattle.deny_spans.proofs.workspace.no_shared.Given as goal
 
 abbrev pub invariant-loop : goal.invariant-loop

@@ -1,5 +1,5 @@
 use Rattle.std.proofs.Common.{◌∙◌, sym}
-use Rattle.deny_lists.proofs.Texts.{empty_from_no_first}
+use Rattle.deny_base_lists.proofs.Texts.{empty_from_no_first}
 use Rattle.deny_spdx.proofs.PrefixLemmas.{some_word, mark_prefix}
 use Rattle.deny_spdx.proofs.token.read_prefix.Goals as goal
 

@@ -1,6 +1,6 @@
 use Rattle.deny_spdx.specs.Tokens.{is_blank}
 use Rattle.deny_spdx.proofs.token.skip_blanks.Goals as goal
-use Rattle.deny_lists.proofs.Texts.{prefix_within, blanks_ascii}
+use Rattle.deny_base_lists.proofs.Texts.{prefix_within, blanks_ascii}
 
 pub split-requires-clause-within : goal.split-requires-clause-within
 split-requires-clause-within c = prefix_within is_blank c.args.text.now _ c.blank_length.result c.as_bytes.ensures.value

@@ -1,7 +1,7 @@
 use Rattle.deny_spdx.specs.Tokens.{is_word_byte}
 use Rattle.deny_spdx.proofs.PrefixLemmas.{words_ascii, word_prefix, plus_prefix}
 use Rattle.std.proofs.Common.{◌∙◌, sym}
-use Rattle.deny_lists.proofs.Texts.{prefix_within}
+use Rattle.deny_base_lists.proofs.Texts.{prefix_within}
 use Rattle.deny_spdx.proofs.token.word.Goals as goal
 
 pub split-requires-clause-within : goal.split-requires-clause-within

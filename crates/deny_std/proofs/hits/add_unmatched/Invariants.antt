@@ -4,5 +4,5 @@ use Rattle.deny_std.proofs.hits.add_unmatched.Given as goal
 
 abbrev pub invariant-loop-entry : goal.invariant-loop-entry
 invariant-loop-entry l =
-    l.unmatched ++ unmatched_in l.passed (drop l.entry-index l.entries)
-    ≡ l.fn.unmatched ++ unmatched_in l.passed l.entries
+    l.unmatched ++ unmatched_in l.witnesses (drop l.entry-index l.entries)
+    ≡ l.fn.unmatched ++ unmatched_in l.witnesses l.entries

@@ -5,5 +5,5 @@ use Rattle.deny_std.proofs.hits.first_hits.Given as goal
 
 abbrev pub invariant-loop-entry : goal.invariant-loop-entry
 invariant-loop-entry l =
-    l.hits ++ filter_map (hit_at l.krates l.passed) (drop l.entry-index l.entries)
-    ≡ filter_map (hit_at l.krates l.passed) l.entries
+    l.hits ++ filter_map (hit_at l.krates l.witnesses) (drop l.entry-index l.entries)
+    ≡ filter_map (hit_at l.krates l.witnesses) l.entries

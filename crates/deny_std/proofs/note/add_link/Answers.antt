@@ -1,6 +1,6 @@
 use Rattle.std.proofs.Common.{◌++◌, ℕ, List, ap, ◌∙◌}
 use Rattle.std.specs.Prelude.{codes}
-use Rattle.deny_lists.proofs.Results.{on_ok_then}
+use Rattle.deny_base_lists.proofs.Results.{on_ok_then}
 use Rattle.deny_std.proofs.NoteLemmas.{link-written}
 use Rattle.deny_std.proofs.note.add_link.Goals as goal
 

@@ -1,4 +1,4 @@
-use Rattle.deny_lists.proofs.Results.{on_ok_then}
+use Rattle.deny_base_lists.proofs.Results.{on_ok_then}
 use Rattle.deny_std_table.specs.Texts.{replacement_given}
 use Rattle.deny_std.proofs.NoteLemmas.{replaced-written}
 use Rattle.deny_std.proofs.note.add_replacement.Goals as goal

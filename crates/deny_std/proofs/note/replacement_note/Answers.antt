@@ -1,7 +1,7 @@
 use Rattle.std.proofs.Common.{◌∙◌, Some}
 use Rattle.deny_std_table.specs.Texts.{item_given, texts_left}
 use Rattle.deny_std_table.proofs.TextLemmas.{next-given}
-use Rattle.deny_codes.specs.StdReplacements.{replacement_note}
+use Rattle.deny_spec_report.specs.StdReplacements.{replacement_note}
 use Rattle.deny_std.specs.private.Said.{said_of}
 use Rattle.deny_std.proofs.NoteLemmas.{note-goes-on, note-starts}
 use Rattle.deny_std.proofs.note.replacement_note.Goals as goal

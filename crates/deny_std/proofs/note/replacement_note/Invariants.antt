@@ -1,6 +1,6 @@
 use Rattle.std.proofs.Common.{◌≡◌, ◌++◌, length}
 use Rattle.deny_std_table.specs.Texts.{texts_left}
-use Rattle.deny_codes.specs.StdReplacements.{replacement_note}
+use Rattle.deny_spec_report.specs.StdReplacements.{replacement_note}
 use Rattle.deny_std.specs.private.Note.{lines_below}
 use Rattle.deny_std.specs.private.Said.{said_of}
 use Rattle.deny_std.proofs.note.replacement_note.Given as goal

@@ -5,7 +5,7 @@ use Rattle.deny_std_table.specs.Width.{width_of}
 use Rattle.deny_std_table.specs.Entries.{entries}
 use Rattle.deny_std_table.proofs.entries.check_entries.Given as goal
 
--- what is left to test breaks where the whole breaks
+-- the rest of the entries has the break of all entries
 abbrev pub invariant-loop-i : goal.invariant-loop-i
 invariant-loop-i l = record {
   same : done_of (entries (width_of l.width) l.bytes l.count l.before l.i (l.count - l.i))

@@ -6,7 +6,7 @@ use Rattle.deny_std_table.specs.Width.{width_of}
 use Rattle.deny_std_table.specs.private.Names.{name_at}
 use Rattle.deny_std_table.proofs.names.find.Given as goal
 
--- the names before `low` are below the one that is looked for, those from `high` on are above it
+-- the names before `low` are below the one that is searched, those from `high` on are above it
 abbrev pub invariant-loop-low : goal.invariant-loop-low
 invariant-loop-low l = record {
   ordered : l.low ≤ l.high;

@@ -5,7 +5,7 @@ use Rattle.deny_std_table.specs.Spelling.{api_text, api_bytes}
 use Rattle.deny_std_table.proofs.CopyLemmas.{Progress}
 use Rattle.deny_std_table.proofs.upgrade.copy_apis.Given as goal
 
--- what is left is still to be written
+-- the rest of the APIs is not written yet
 abbrev pub invariant-loop-index : goal.invariant-loop-index
 invariant-loop-index l =
     Progress (api (bounds (width_of l.region.width) l.region.bytes.now l.region.stop))

@@ -5,7 +5,7 @@ use Rattle.deny_std_table.specs.Spelling.{group_text, group_bytes}
 use Rattle.deny_std_table.proofs.CopyLemmas.{Progress}
 use Rattle.deny_std_table.proofs.upgrade.copy_groups.Given as goal
 
--- what is left is still to be written
+-- the rest of the groups is not written yet
 abbrev pub invariant-loop-index : goal.invariant-loop-index
 invariant-loop-index l =
     Progress (group (bounds (width_of l.region.width) l.region.bytes.now l.region.stop))

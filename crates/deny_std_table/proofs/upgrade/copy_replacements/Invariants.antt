@@ -5,7 +5,7 @@ use Rattle.deny_std_table.specs.Spelling.{replacement_text, replacement_bytes}
 use Rattle.deny_std_table.proofs.CopyLemmas.{Progress}
 use Rattle.deny_std_table.proofs.upgrade.copy_replacements.Given as goal
 
--- what is left is still to be written
+-- the rest of the replacements is not written yet
 abbrev pub invariant-loop-index : goal.invariant-loop-index
 invariant-loop-index l =
     Progress (replacement (bounds (width_of l.region.width) l.region.bytes.now l.region.stop))

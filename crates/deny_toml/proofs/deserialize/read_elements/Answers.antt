@@ -1,5 +1,5 @@
 use Rattle.std.proofs.Common.{◌≡◌, [], sym, ◌∙◌}
-use Rattle.deny_toml.proofs.FaultLaws.{none_listed, in_order-none}
+use Rattle.deny_toml_tree.proofs.FaultLaws.{none_listed, in_order-none}
 use Rattle.deny_toml.proofs.deserialize.read_elements.Goals as goal
 
 pub returns-then-len-eq0-clause-ok : goal.returns-then-len-eq0-clause-ok

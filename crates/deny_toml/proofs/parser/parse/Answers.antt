@@ -1,5 +1,5 @@
 use Rattle.std.proofs.Common.{inr}
-use Rattle.deny_toml.proofs.ParserLaws.{clash_found, clash_range, tree_stands}
+use Rattle.deny_toml.proofs.ParserLaws.{clash_found, clash_span, tree_holds}
 use Rattle.deny_toml.proofs.ApartGrammar.{tree_apart}
 use Rattle.deny_toml.proofs.parser.parse.Goals as goal
 
@@ -10,11 +10,11 @@ returns-in-Some-clause-cause c =
 
 pub returns-in-Some-clause-lies : goal.returns-in-Some-clause-lies
 returns-in-Some-clause-lies c =
-    inr (clash_range c.args.text.now _ _ c.in-Some.span c.utf8.text c.in_ok-expressions.ensures.document
+    inr (clash_span c.args.text.now _ _ c.in-Some.span c.utf8.text c.in_ok-expressions.ensures.document
     c.in_ok-span.ensures.exact c.in-Some.is)
 
-pub returns-clause-stands : goal.returns-clause-stands
-returns-clause-stands c = tree_stands c.args.text.now _ _ _ c.utf8.text c.in_ok-expressions.ensures.document
+pub returns-clause-holds : goal.returns-clause-holds
+returns-clause-holds c = tree_holds c.args.text.now _ _ _ c.utf8.text c.in_ok-expressions.ensures.document
     c.whole.ensures c.in_ok-tree_of.ensures.exact
 
 pub returns-clause-apart : goal.returns-clause-apart

@@ -1,4 +1,4 @@
-use Rattle.deny_toml.proofs.FaultLaws.{reports_under}
+use Rattle.deny_toml_tree.proofs.FaultLaws.{reports_under}
 use Rattle.deny_toml.proofs.table_helper.read_under.Goals as goal
 
 pub returns-in_ok-put_under-in-Err-Faults-clause-faults :

@@ -2,7 +2,7 @@ use Rattle.std.proofs.Common.{◌≡◌, ◌+◌, ◌-◌, ◌==◌, true, false
 use Rattle.std.proofs.lemmas.Grind.{common_steps}
 use Rattle.std.proofs.lemmas.Bool.Decides.{nat_tests}
 use Rattle.deny_toml_grammar.specs.Lexical.{first, skip_spaces}
-use Rattle.deny_lists.proofs.ReaderLemmas.{handed_on}
+use Rattle.deny_base_lists.proofs.ReaderLemmas.{handed_on}
 use Rattle.deny_toml_grammar.specs.declared.read_error.ReadError.TheVariants.{Memory}
 use Rattle.deny_toml_grammar.proofs.StringsLaws.{fails_with}
 use Rattle.deny_toml_grammar.proofs.KeysLaws.{key_after_zero, key_after_none, key_after_last, key_after_more}

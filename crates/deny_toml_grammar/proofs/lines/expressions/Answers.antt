@@ -3,7 +3,7 @@ use Rattle.std.proofs.lemmas.Grind.{common_steps}
 use Rattle.std.proofs.lemmas.Bool.Decides.{nat_tests}
 use Rattle.deny_toml_grammar.specs.private.Lexical.{skip_blank}
 use Rattle.deny_toml_grammar.specs.private.Lines.{expressions}
-use Rattle.deny_lists.proofs.ReaderLemmas.{handed_on}
+use Rattle.deny_base_lists.proofs.ReaderLemmas.{handed_on}
 use Rattle.deny_toml_grammar.specs.declared.read_error.ReadError.TheVariants.{Memory}
 use Rattle.deny_toml_grammar.proofs.StringsLaws.{fails_with}
 use Rattle.deny_toml_grammar.proofs.LinesLaws.{lines_end, lines_more, lines_bad}

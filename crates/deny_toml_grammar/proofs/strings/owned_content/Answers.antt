@@ -1,6 +1,6 @@
 use Rattle.std.proofs.Common.{sym, ◌∙◌, rules, arith, le_refl}
 use Rattle.std.proofs.lemmas.Grind.{common_steps}
-use Rattle.deny_lists.proofs.ReaderLemmas.{handed_on}
+use Rattle.deny_base_lists.proofs.ReaderLemmas.{handed_on}
 use Rattle.deny_toml_grammar.specs.declared.read_error.ReadError.TheVariants.{Memory}
 use Rattle.deny_toml_grammar.proofs.StringsLaws.{fails_with, prepend-nil, turn_more, turn_done}
 use Rattle.deny_toml_grammar.proofs.StringsLaws.{turn_none}

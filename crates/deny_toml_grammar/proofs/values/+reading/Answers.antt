@@ -4,7 +4,7 @@ use Rattle.std.proofs.lemmas.Grind.{common_steps}
 use Rattle.deny_toml_grammar.specs.Lexical.{first, skip_spaces}
 use Rattle.deny_toml_grammar.specs.private.Lexical.{skip_blank}
 use Rattle.deny_toml_grammar.specs.private.Values.{value}
-use Rattle.deny_lists.proofs.ReaderLemmas.{handed_on}
+use Rattle.deny_base_lists.proofs.ReaderLemmas.{handed_on}
 use Rattle.deny_toml_grammar.specs.declared.read_error.ReadError.TheVariants.{Memory}
 use Rattle.deny_toml_grammar.proofs.StringsLaws.{fails_with, reads_same}
 use Rattle.deny_toml_grammar.proofs.ValuesLaws as laws

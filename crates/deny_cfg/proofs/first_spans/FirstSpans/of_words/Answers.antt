@@ -1,5 +1,5 @@
 use Rattle.std.proofs.Common.{arith, subst}
-use Rattle.deny_lists.specs.First.{GainsEntry}
+use Rattle.deny_base_lists.specs.First.{GainsEntry}
 use Rattle.deny_cfg.specs.private.FirstSpans.{word_span, first_span, same_wording}
 use Rattle.deny_cfg.proofs.FirstSpansLaws.{finds_next}
 use Rattle.deny_cfg.proofs.first_spans.FirstSpans.of_words.Goals as goal

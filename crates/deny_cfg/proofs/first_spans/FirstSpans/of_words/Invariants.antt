@@ -1,5 +1,5 @@
 use Rattle.std.proofs.Common.{map, take}
-use Rattle.deny_lists.specs.First.{FindsFirst}
+use Rattle.deny_base_lists.specs.First.{FindsFirst}
 use Rattle.deny_cfg.specs.private.FirstSpans.{word_span, first_span, same_wording}
 use Rattle.deny_cfg.proofs.first_spans.FirstSpans.of_words.Given as goal
 

@@ -1,8 +1,8 @@
 use Rattle.std.proofs.Common.{sym, subst}
-use Rattle.deny_crate_graph.specs.Read.{IsGraphOf}
-use Rattle.deny_lists.proofs.ReaderLemmas.{if_err_handed}
-use Rattle.deny_metadata.specs.declared.fault.MetadataFault.TheVariants.{Memory}
-use Rattle.deny_model.specs.Graph.{Graph}
+use Rattle.deny_krates_graph.specs.Read.{IsGraphOf}
+use Rattle.deny_base_lists.proofs.ReaderLemmas.{if_err_handed}
+use Rattle.deny_krates_metadata.specs.declared.fault.MetadataFault.TheVariants.{Memory}
+use Rattle.deny_spec.specs.Graph.{Graph}
 use Rattle.deny_krates.proofs.krates.Krates.build.Goals as goal
 
 pub returns-in_err-graph-clause-err : goal.returns-in_err-graph-clause-err

@@ -1,7 +1,7 @@
 use Rattle.std.proofs.Common.{◌≡◌, ◌<◌, length, slice_index_or, sym, subst, List, refl}
 use Rattle.std.proofs.lemmas.Option.{slice_get_read}
-use Rattle.deny_model.specs.Graph.{Graph}
-use Rattle.deny_crate_graph.specs.declared.krate.DirectDependent.{DirectDependent}
+use Rattle.deny_spec.specs.Graph.{Graph}
+use Rattle.deny_krates_graph.specs.declared.krate.DirectDependent.{DirectDependent}
 use Rattle.deny_krates.proofs.krates.Krates.direct_dependencies.Goals as goal
 
 pub returns : goal.returns

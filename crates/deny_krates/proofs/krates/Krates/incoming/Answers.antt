@@ -1,7 +1,7 @@
 use Rattle.std.proofs.Common.{◌≡◌, ◌<◌, ◌∙◌, ℕ, List, Option, Some, ap, length, subst, sym}
 use Rattle.std.specs.Prelude.{◌↔◌, All, Contains, map, slice_get}
-use Rattle.deny_lists.specs.Ascending.{Lists}
-use Rattle.deny_lists.proofs.Members.{some_at}
+use Rattle.deny_base_lists.specs.Ascending.{Lists}
+use Rattle.deny_base_lists.proofs.Members.{some_at}
 use Rattle.deny_krates.specs.Nodes.{node_at, sources_at}
 use Rattle.deny_krates.specs.private.Sources.{IsThere, parent_cmp, parent_of, source_of}
 use Rattle.deny_krates.specs.declared.incoming.Parent.{Parent}

@@ -1,10 +1,10 @@
 use Rattle.std.proofs.Common.{◌+◌, ◌-◌, ◌≤◌, length, List, ap, ◌∙◌, arith}
 use Rattle.std.specs.Prelude.{filter}
-use Rattle.deny_model.specs.Graph.{Graph}
-use Rattle.deny_model.specs.Groups.{has_name}
-use Rattle.deny_crate_graph.specs.Crates.{crates_from}
-use Rattle.deny_crate_graph.specs.declared.krate.Krate.{Krate}
-use Rattle.deny_crate_graph.proofs.CratesLemmas.{crates_from-part}
+use Rattle.deny_spec.specs.Graph.{Graph}
+use Rattle.deny_spec.specs.Groups.{has_name}
+use Rattle.deny_krates_graph.specs.Crates.{crates_from}
+use Rattle.deny_krates_graph.specs.declared.krate.Krate.{Krate}
+use Rattle.deny_krates_graph.proofs.CratesLemmas.{crates_from-part}
 use Rattle.deny_krates.proofs.krates.Krates.krates_by_name.Goals as goal
 
 pub returns : goal.returns

@@ -1,11 +1,11 @@
 use Rattle.std.proofs.Common.{◌<◌, ◌∙◌, ℕ, List, Bool, sym, subst}
 use Rattle.std.specs.Prelude.{All}
 use Rattle.deny_base.specs.declared.edge.Edge.{Edge}
-use Rattle.deny_crate_graph.specs.Crates.{graph_of}
-use Rattle.deny_crate_graph.specs.Filtered.{AreMarks}
-use Rattle.deny_model.specs.Graph.{Graph}
-use Rattle.deny_crate_graph.proofs.OrderlyLemmas.{children_inside, members_inside, parents_inside}
-use Rattle.deny_crate_graph.proofs.CratesLemmas.{length-crates_from}
+use Rattle.deny_krates_graph.specs.Crates.{graph_of}
+use Rattle.deny_krates_graph.specs.Filtered.{AreMarks}
+use Rattle.deny_spec.specs.Graph.{Graph}
+use Rattle.deny_krates_graph.proofs.OrderlyLemmas.{children_inside, members_inside, parents_inside}
+use Rattle.deny_krates_graph.proofs.CratesLemmas.{length-crates_from}
 use Rattle.deny_krates.proofs.krates.Krates.krates_filtered.Goals as goal
 
 pub reached_without-requires-clause-members : goal.reached_without-requires-clause-members

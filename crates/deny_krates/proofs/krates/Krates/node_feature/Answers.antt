@@ -2,7 +2,7 @@ use Rattle.std.proofs.Common.{◌≡◌, ◌<◌, ◌≤◌, ◌-◌, ◌∙◌,
 use Rattle.std.specs.Prelude.{slice_get}
 use Rattle.std.proofs.lemmas.Option.{slice_get-get_or, slice_get_within, same_Some}
 use Rattle.deny_krates.specs.Nodes.{Node}
-use Rattle.deny_crate_graph.specs.declared.krate.Krate.{Krate}
+use Rattle.deny_krates_graph.specs.declared.krate.Krate.{Krate}
 use Rattle.deny_krates.specs.private.NodeNumbers.{IsLastUpTo, first_features_of}
 use Rattle.deny_krates.proofs.NodeLemmas.{as_many, crate_node_of, crate_read, first_start, owned_feature}
 use Rattle.deny_krates.proofs.NodeLemmas.{owner_features, read_start, some_starts}

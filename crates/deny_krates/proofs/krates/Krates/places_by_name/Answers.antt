@@ -1,4 +1,4 @@
-use Rattle.deny_crate_graph.proofs.CratesLemmas.{length-crates_from}
+use Rattle.deny_krates_graph.proofs.CratesLemmas.{length-crates_from}
 use Rattle.deny_krates.proofs.krates.Krates.places_by_name.Goals as goal
 
 pub returns-clause-within : goal.returns-clause-within

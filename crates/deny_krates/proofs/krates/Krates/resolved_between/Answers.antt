@@ -1,13 +1,13 @@
 use Rattle.std.proofs.Common.{◌<◌, ◌+◌, ◌∙◌, List, ap, arith, length, refl, subst, sym}
 use Rattle.std.specs.Prelude.{◌&&◌, filter, not}
-use Rattle.deny_crate_graph.specs.Crates.{graph_of}
+use Rattle.deny_krates_graph.specs.Crates.{graph_of}
 use Rattle.deny_krates.specs.private.Resolved.{AreBetween, is_before}
 use Rattle.deny_krates.specs.declared.resolved.ResolvedAt.{ResolvedAt}
 use Rattle.deny_krates.proofs.DeclaredLemmas.{between_are}
 use Rattle.deny_krates.proofs.NodeLemmas.{placed}
-use Rattle.deny_crate_graph.proofs.CratesLemmas.{length-crates_from}
+use Rattle.deny_krates_graph.proofs.CratesLemmas.{length-crates_from}
 use Rattle.deny_krates.proofs.krates.Krates.resolved_between.Goals as goal
-use Rattle.deny_model.specs.Graph.{Graph}
+use Rattle.deny_spec.specs.Graph.{Graph}
 
 pub resolved_between-requires-clause-few : goal.resolved_between-requires-clause-few
 resolved_between-requires-clause-few c =

@@ -4,19 +4,19 @@ use Rattle.std.specs.Option.{option_and_then}
 use Rattle.std.specs.List.Sorted.{IsSortedByKey, IsStrictlySortedBy}
 use Rattle.std.specs.Cmp.Lexicographic.{slice_cmp}
 use Rattle.std.specs.Ordering.{nat_cmp}
-use Rattle.deny_model.specs.Graph.{Crate, Dependency, Graph}
-use Rattle.deny_model.specs.Resolution.{declaration_at, resolution}
-use Rattle.deny_model.specs.TargetEdge.{target_edge_cmp}
-use Rattle.deny_model.specs.declared.target_edge.TargetEdge.{TargetEdge}
-use Rattle.deny_crate_graph.specs.Crates.{crates_from, dependency_view, graph_of}
-use Rattle.deny_crate_graph.specs.declared.krate.Krate.{Krate}
+use Rattle.deny_spec.specs.Graph.{Crate, Dependency, Graph}
+use Rattle.deny_spec.specs.Resolution.{declaration_at, resolution}
+use Rattle.deny_spec.specs.TargetEdge.{target_edge_cmp}
+use Rattle.deny_spec.specs.declared.target_edge.TargetEdge.{TargetEdge}
+use Rattle.deny_krates_graph.specs.Crates.{crates_from, dependency_view, graph_of}
+use Rattle.deny_krates_graph.specs.declared.krate.Krate.{Krate}
 use Rattle.deny_krates.proofs.krates.Krates.resolved_dependency.Goals as goal
 
--- what the call says of a graph
+-- the clause of the call, for a graph
 abbrev Answers : ℕ → ℕ → Option ℕ → Graph → Type 0
 Answers place index r g = r ≡ option_and_then (resolution g place) (declaration_at g place index)
 
--- the declaration, by the kept crates
+-- the declaration at an index of the crate at a place, by the crates in code
 abbrev IsDeclaration : ℕ → ℕ → Option Dependency → List Krate → Type 0
 IsDeclaration place index d ks =
     d ≡ option_and_then (λ (x : Crate). slice_get x.deps index) (slice_get (crates_from 0 ks) place)

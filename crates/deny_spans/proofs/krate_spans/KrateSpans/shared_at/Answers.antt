@@ -5,8 +5,8 @@ use Rattle.std.specs.Prelude.{IfSome, option_map, slice_get}
 use Rattle.deny_spans.specs.SpansView.{IsSharedAt}
 use Rattle.deny_spans.proofs.SharedLemmas.{copied_map, copied_some, got_at, shared_got}
 use Rattle.deny_spans.proofs.krate_spans.KrateSpans.shared_at.Goals as goal
-use Rattle.deny_workspace.specs.Workspace.{span_view}
-use Rattle.deny_workspace.specs.declared.workspace.WorkspaceSpan.{WorkspaceSpan}
+use Rattle.deny_spans_workspace.specs.Workspace.{span_view}
+use Rattle.deny_spans_workspace.specs.declared.workspace.WorkspaceSpan.{WorkspaceSpan}
 
 pub returns-in_err-get-clause-is : goal.returns-in_err-get-clause-is
 returns-in_err-get-clause-is c =

@@ -1,7 +1,7 @@
 use Rattle.std.proofs.Common.{◌∙◌, List, subst}
 use Rattle.deny_base.specs.declared.files.File.{File}
 use Rattle.deny_spans.proofs.CountLemmas.{caused_listed}
-use Rattle.deny_spans.proofs.RangeLemmas.{view_lies}
+use Rattle.deny_spans.proofs.SpanLemmas.{view_lies}
 use Rattle.deny_spans.proofs.SeenLemmas.{lock_at, seen_is, spans_are, wanted_are}
 use Rattle.deny_spans.proofs.krate_spans.KrateSpans.synthesize.Goals as goal
 use Rattle.deny_spans.specs.Seen.{IsSeen}
@@ -31,8 +31,8 @@ returns-clause-locked g c =
     c.in_ok-lock.ensures.files c.in_ok-found.ensures.found.files (c.in_ok-spans.ensures.lock_id
     ∙ c.in_ok-lock.ensures.id)
 
-pub returns-clause-ranges : goal.returns-clause-ranges
-returns-clause-ranges g c =
+pub returns-clause-lies : goal.returns-clause-lies
+returns-clause-lies g c =
     let told = (g.D.PackageFiles.seen c.args.disk.now).files in
     let s = c.in_ok-spans.spans in
     view_lies told c.args.krates.now c.args.registries.now c.add_lock.new.files c.find_manifests.new.files s.unread

@@ -5,7 +5,7 @@ use Rattle.deny_std_table.specs.Width.{width_of}
 use Rattle.deny_std_table.specs.Region.{bounds, api}
 use Rattle.deny_std_table.proofs.region.Region.skip_apis.Given as goal
 
--- what is left to read ends where the whole ends
+-- the rest of the APIs ends where all of them end
 abbrev pub invariant-loop-index : goal.invariant-loop-index
 invariant-loop-index l =
     next_of (many (api (bounds (width_of l.self.width) l.self.bytes.now l.self.stop)) (l.count - l._index) l.next)

@@ -1,0 +1,10 @@
+pub mod Ascending
+pub mod Blanks
+pub mod First
+pub mod Prefix
+pub mod Reader
+pub mod Search
+pub mod TextMap
+pub mod Walk
+pub mod formers
+pub mod private

@@ -1,0 +1,4 @@
+pub mod Added
+pub mod Bound
+pub mod Causes
+pub mod View

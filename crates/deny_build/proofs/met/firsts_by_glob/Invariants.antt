@@ -1,8 +1,0 @@
-use Rattle.std.proofs.Common.{ℕ, List, map, take}
-use Rattle.std.specs.FinMap as finite
-use Rattle.deny_build.specs.private.Met.{IsFirstAt, meets_glob, met_view}
-use Rattle.deny_build.proofs.met.firsts_by_glob.Given as goal
-
-abbrev pub invariant-loop-number : goal.invariant-loop-number
-invariant-loop-number l = (text : List ℕ)
-    → IsFirstAt (meets_glob text) (map met_view (take l.number l.all)) (finite.get l.firsts text)

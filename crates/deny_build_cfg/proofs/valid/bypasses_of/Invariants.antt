@@ -1,6 +1,0 @@
-use Rattle.std.specs.List.{AllZip}
-use Rattle.deny_build_cfg.specs.Build.{IsBypassOf}
-use Rattle.deny_build_cfg.proofs.valid.bypasses_of.Given as goal
-
-abbrev pub invariant-entries : goal.invariant-entries
-invariant-entries l = AllZip IsBypassOf l.yielded l.all

@@ -1,7 +1,0 @@
-use Rattle.std.proofs.Common.{take}
-use Rattle.deny_lists.specs.Ascending.{Adds}
-use Rattle.deny_build_cfg.specs.Wrong.{IsGlobFaultOf, IsOfAny}
-use Rattle.deny_build_cfg.proofs.wrong.put_globs_faults.Given as goal
-
-abbrev pub invariant-loop-glob : goal.invariant-loop-glob
-invariant-loop-glob l = Adds (IsOfAny IsGlobFaultOf (take l.glob-index l.globs)) l.fn.faults l.faults

@@ -1,8 +1,0 @@
-use Rattle.std.proofs.Common.{◌≡◌, ◌++◌, drop}
-use Rattle.std.specs.List.{flat_map}
-use Rattle.deny_build_cfg.specs.Wrong.{path_faults}
-use Rattle.deny_build_cfg.proofs.wrong.put_paths_faults.Given as goal
-
-abbrev pub invariant-loop-entry : goal.invariant-loop-entry
-invariant-loop-entry l =
-    l.faults ++ flat_map path_faults (drop l.entry-index l.bypass) ≡ l.fn.faults ++ flat_map path_faults l.bypass

@@ -1,3 +1,0 @@
-pub mod Prefix
-pub mod Hashing
-pub mod Home

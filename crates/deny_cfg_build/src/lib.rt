@@ -1,0 +1,18 @@
+//! The table `build` of a policy, as the rules take it: with the globs that are read from its texts, and the built-in
+//! globs in a file of their own.
+#![tactic(auto)]
+
+mod builtin;
+mod fitting;
+mod gathered;
+mod glob_set;
+mod pattern;
+mod valid;
+mod view;
+mod wrong;
+
+pub use glob_set::ValidGlobSet;
+pub use pattern::GlobPattern;
+pub use valid::{ValidBuildConfig, ValidBypass, build_by, older_key_by, valid_build};
+pub use view::globs_file;
+pub use wrong::{BuildFault, wrong_in};

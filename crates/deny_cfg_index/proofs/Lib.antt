@@ -1,0 +1,4 @@
+pub mod Lists
+pub mod BucketLemmas
+pub mod IndexLemmas
+pub mod Rows

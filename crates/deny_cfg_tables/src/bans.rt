@@ -1,0 +1,3 @@
+//! The table `[bans]`.
+
+pub mod cfg;

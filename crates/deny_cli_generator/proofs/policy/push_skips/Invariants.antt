@@ -1,0 +1,8 @@
+use Rattle.std.proofs.Common.{◌≡◌, ◌++◌, drop}
+use Rattle.std.specs.List.{flat_map}
+use Rattle.deny_cli_generator.specs.PolicyText.{skip_text}
+use Rattle.deny_cli_generator.proofs.policy.push_skips.Given as goal
+
+abbrev pub invariant-loop-number : goal.invariant-loop-number
+invariant-loop-number l =
+    l.text ++ flat_map skip_text (drop l.number-index l.numbers) ≡ l.fn.text ++ flat_map skip_text l.numbers

@@ -1,5 +1,0 @@
-use Rattle.deny_codes.proofs.Joined.{joined}
-use Rattle.deny_codes.proofs.laws.joined_keys.Goals as goal
-
-pub returns : goal.returns
-returns c = λ d facts xs ys these those. joined d facts xs ys these those

@@ -1,6 +1,0 @@
-use Rattle.std.proofs.Common.{◌≡◌}
-use Rattle.deny_crate_graph.specs.Listed.{features_of}
-use Rattle.deny_crate_graph.proofs.crates.features_in.Given as goal
-
-abbrev pub invariant-loop-feature : goal.invariant-loop-feature
-invariant-loop-feature l = l.features ≡ features_of l.yielded

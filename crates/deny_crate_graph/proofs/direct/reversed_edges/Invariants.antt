@@ -1,6 +1,0 @@
-use Rattle.std.proofs.Common.{◌≡◌, map, take}
-use Rattle.deny_crate_graph.specs.private.Direct.{reversed}
-use Rattle.deny_crate_graph.proofs.direct.reversed_edges.Given as goal
-
-abbrev pub invariant-loop-edge : goal.invariant-loop-edge
-invariant-loop-edge l = l.others ≡ map reversed (take l.edge-index l.edges)

@@ -1,6 +1,0 @@
-use Rattle.deny_crate_graph.proofs.IdsLemmas.{entries_done}
-use Rattle.deny_crate_graph.proofs.ids.entries.Goals as goal
-
-pub returns : goal.returns
-returns c = entries_done c.args.krates.now c.loop-place.place c.loop-place.entries c.loop-place-test.false
-    c.loop-place.invariant

@@ -1,8 +1,0 @@
-use Rattle.deny_crate_graph.proofs.BuildLemmas.{document_fails, document_stands}
-use Rattle.deny_crate_graph.proofs.read.document_at.Goals as goal
-
-pub returns-clause-ok : goal.returns-clause-ok
-returns-clause-ok c = document_stands c.args.bytes.now c.document_at.result c.document_at.ensures
-
-pub returns-clause-err : goal.returns-clause-err
-returns-clause-err c = document_fails c.args.bytes.now c.document_at.result c.document_at.ensures

@@ -1,7 +1,0 @@
-use Rattle.std.proofs.Common.{arith}
-use Rattle.deny_facts.proofs.RunLemmas.{pushed-range}
-use Rattle.deny_crate_rules.proofs.allowed.all_places.Goals as goal
-
-pub loop-place-preserved : goal.loop-place-preserved
-loop-place-preserved c = pushed-range c.loop-place.places c.push.new.self _ c.loop-place.place c.args.crates
-    (omega arith) c.in_ok-push.ensures.ok c.loop-place.invariant

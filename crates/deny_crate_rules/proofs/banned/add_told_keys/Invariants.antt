@@ -1,9 +1,0 @@
-use Rattle.std.proofs.Common.{Contains, take}
-use Rattle.std.specs.List.{flat_map}
-use Rattle.deny_lists.specs.Ascending.{Adds}
-use Rattle.deny_crate_rules.specs.private.Banned.{told_keys_at}
-use Rattle.deny_crate_rules.proofs.banned.add_told_keys.Given as goal
-
-abbrev pub invariant-loop-place : goal.invariant-loop-place
-invariant-loop-place l = Adds (Contains (flat_map (told_keys_at l.krates l.ranges l.entry)
-    (take l.place-index l.places))) l.fn.keys l.keys

@@ -1,9 +1,0 @@
-use Rattle.std.proofs.Common.{◌≡◌, ◌++◌, drop}
-use Rattle.std.specs.Prelude.{filter_map}
-use Rattle.deny_crate_rules.specs.private.WrappedEdges.{wrapped_edge_at}
-use Rattle.deny_crate_rules.proofs.hits.add_wrapped_edges.Given as goal
-
-abbrev pub invariant-loop-parent : goal.invariant-loop-parent
-invariant-loop-parent l =
-    l.edges ++ filter_map (wrapped_edge_at l.krates l.ranges l.place)
-    (drop l.parent-index l.parents) ≡ l.fn.edges ++ filter_map (wrapped_edge_at l.krates l.ranges l.place) l.parents

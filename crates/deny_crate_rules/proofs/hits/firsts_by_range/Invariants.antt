@@ -1,6 +1,0 @@
-use Rattle.std.proofs.Common.{take}
-use Rattle.deny_crate_rules.specs.private.WrappedEdges.{LeadToFirsts}
-use Rattle.deny_crate_rules.proofs.hits.firsts_by_range.Given as goal
-
-abbrev pub invariant-loop-edge : goal.invariant-loop-edge
-invariant-loop-edge l = LeadToFirsts (take l.edge-index l.edges) l.firsts

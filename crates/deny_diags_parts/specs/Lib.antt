@@ -1,0 +1,2 @@
+pub mod BySpan
+pub mod Context

@@ -1,4 +1,0 @@
-use Rattle.deny_dup_edges.proofs.above.reach_above.Given as goal
-
-abbrev pub ghosts-uncounted : goal.ghosts-uncounted
-ghosts-uncounted a = record { name = a.blank.name; parts = a.blank.parts }

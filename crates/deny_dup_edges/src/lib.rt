@@ -1,7 +1,0 @@
-//! What is shown of duplicates: the edges that lead to their crates.
-#![tactic(auto)]
-
-mod above;
-mod dup_edges;
-
-pub use dup_edges::{DupEdge, DupEdges, DupSet, dup_edges_of};

@@ -1,5 +1,0 @@
-use Rattle.deny_entries.proofs.SpecLaws.{equal_match}
-use Rattle.deny_entries.proofs.spec_equal.equal_specs_match_alike.Goals as goal
-
-pub returns : goal.returns
-returns c = equal_match

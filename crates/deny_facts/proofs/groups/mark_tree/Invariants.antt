@@ -1,6 +1,0 @@
-use Rattle.std.proofs.Common.{take}
-use Rattle.deny_facts.specs.Marks.{HaveBesides, mark_at}
-use Rattle.deny_facts.proofs.groups.mark_tree.Given as goal
-
-abbrev pub invariant-loop-place : goal.invariant-loop-place
-invariant-loop-place l = HaveBesides (mark_at (take l.place l.tree)) l.initial.rooted l.rooted

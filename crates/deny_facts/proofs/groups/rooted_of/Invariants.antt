@@ -1,8 +1,0 @@
-use Rattle.std.proofs.Common.{◌≡◌, map, take}
-use Rattle.std.specs.List.{list_any}
-use Rattle.deny_facts.specs.Marks.{marked}
-use Rattle.deny_facts.proofs.groups.rooted_of.Given as goal
-
-abbrev pub invariant-loop-tree : goal.invariant-loop-tree
-invariant-loop-tree l = l.rooted ≡ map (λ c. list_any (λ tree. marked tree c)
-    (take l.tree-index l.trees)) l.krates.crates

@@ -1,9 +1,0 @@
-use Rattle.std.proofs.Common.{take}
-use Rattle.std.specs.Prelude.{◌==◌}
-use Rattle.std.specs.List.{list_any}
-use Rattle.deny_facts.specs.Marks.{HaveBesides}
-use Rattle.deny_facts.proofs.marking.mark_each.Given as goal
-
-abbrev pub invariant-loop-place : goal.invariant-loop-place
-invariant-loop-place l = HaveBesides (λ n. list_any (λ place. place == n)
-    (take l.place-index l.places)) l.initial.marks-inside.vec.items l.marks-inside.vec.items

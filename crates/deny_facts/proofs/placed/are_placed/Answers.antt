@@ -1,5 +1,0 @@
-use Rattle.deny_krates.proofs.PlaceLemmas.{are_placed}
-use Rattle.deny_facts.proofs.placed.are_placed.Goals as goal
-
-pub returns : goal.returns
-returns c = are_placed c.krates.result.now c.args.krates.now.crates c.krates.ensures.crates

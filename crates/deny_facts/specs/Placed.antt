@@ -1,2 +1,0 @@
--- Crates stand at their places.
-pub use Rattle.deny_krates.specs.Placed.{ArePlaced}

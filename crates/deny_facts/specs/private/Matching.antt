@@ -1,9 +1,0 @@
--- The crates of an entry's name, one by one.
-use Rattle.std.specs.Prelude.{Bool}
-use Rattle.deny_model.specs.Graph.{Crate}
-use Rattle.deny_model.specs.Match.{meets}
-use Rattle.deny_model.specs.Policy.{Spec}
-
--- the crate has a version that the entry asks for
-unfoldable pub is_met_by : Spec → Crate → Bool
-is_met_by spec c = meets spec.requirement c.version

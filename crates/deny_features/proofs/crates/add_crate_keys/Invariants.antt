@@ -1,8 +1,0 @@
-use Rattle.std.proofs.Common.{◌≡◌, ◌++◌, drop, map}
-use Rattle.deny_model.specs.Keys.{crate_key}
-use Rattle.deny_features.proofs.crates.add_crate_keys.Given as goal
-
-abbrev pub invariant-loop-place : goal.invariant-loop-place
-invariant-loop-place l =
-    l.keys ++ map (λ place. crate_key l.code place l.entry) (drop l.place-index l.places)
-    ≡ l.fn.keys ++ map (λ place. crate_key l.code place l.entry) l.places

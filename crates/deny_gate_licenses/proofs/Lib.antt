@@ -1,0 +1,10 @@
+pub mod AnswerLemmas
+pub mod GrantLemmas
+pub mod GranterLemmas
+pub mod HitLemmas
+pub mod JudgedLemmas
+pub mod JudgementLemmas
+pub mod KeyLemmas
+pub mod MapLemmas
+pub mod OrderLemmas
+pub mod ReportedLemmas

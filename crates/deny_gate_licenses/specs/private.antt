@@ -1,0 +1,9 @@
+pub mod Answers
+pub mod Counted
+pub mod Granters
+pub mod Granting
+pub mod Grants
+pub mod JudgedCrates
+pub mod Judgements
+pub mod Reported
+pub mod Witnesses

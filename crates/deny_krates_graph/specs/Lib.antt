@@ -1,0 +1,12 @@
+pub use Rattle.deny_krates_sources.specs.Checked
+pub mod Bounds
+pub mod Crates
+pub mod Dependents
+pub mod Filtered
+pub mod IdEntries
+pub mod Ids
+pub mod Listed
+pub mod Orderly
+pub mod Packages
+pub mod Read
+pub mod private

@@ -1,0 +1,11 @@
+//! The lock text of a graph: a line for each crate, and the spans of each crate in it.
+#![tactic(auto)]
+
+mod laws;
+mod line;
+mod order;
+mod text;
+
+pub use laws::lines_ascend;
+pub use line::LockSpan;
+pub use text::{LockText, lock_text};

@@ -1,5 +1,0 @@
-use Rattle.deny_laws.proofs.BypassRemoval.{bypasses_gone}
-use Rattle.deny_laws.proofs.bypasses_can_go.Goals as goal
-
-pub returns : goal.returns
-returns c = λ d facts taken keys are unhit listed. bypasses_gone d facts taken keys are unhit listed

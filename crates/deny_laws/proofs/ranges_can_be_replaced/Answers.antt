@@ -1,6 +1,0 @@
-use Rattle.deny_laws.proofs.Renaming.{all_renamed}
-use Rattle.deny_laws.proofs.ranges_can_be_replaced.Goals as goal
-
-pub returns : goal.returns
-returns c = λ r d these those are are_new apart licences_apart bypasses_apart.
-    all_renamed r d these those are are_new apart licences_apart bypasses_apart

@@ -1,5 +1,0 @@
-use Rattle.deny_laws.proofs.SkipRemoval.{skips_gone}
-use Rattle.deny_laws.proofs.skips_can_go.Goals as goal
-
-pub returns : goal.returns
-returns c = λ d facts taken keys are unhit listed. skips_gone d facts taken keys are unhit listed

@@ -1,6 +1,0 @@
-use Rattle.std.proofs.Common.{◌≡◌, ◌++◌, map, take}
-use Rattle.deny_licenses.specs.private.Told.{unused_pack}
-use Rattle.deny_licenses.proofs.told.tell_unused.Given as goal
-
-abbrev pub invariant-loop-by : goal.invariant-loop-by
-invariant-loop-by l = l.packs ≡ l.fn.packs ++ map (unused_pack l.level l.id) (take l.by-index l.unused)

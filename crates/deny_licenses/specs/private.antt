@@ -1,9 +1,0 @@
-pub mod Answers
-pub mod Counted
-pub mod Found
-pub mod Granters
-pub mod Grants
-pub mod Granting
-pub mod Judgements
-pub mod Told
-pub mod Witnesses

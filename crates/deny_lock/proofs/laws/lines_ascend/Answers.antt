@@ -1,7 +1,0 @@
-use Rattle.deny_lock.proofs.SpanLemmas.{lines-ascend}
-use Rattle.deny_lock.proofs.WritingLemmas.{are_own}
-use Rattle.deny_lock.proofs.laws.lines_ascend.Goals as goal
-
-pub returns : goal.returns
-returns c = lines-ascend c.args.krates.now.crates
-    (are_own c.krates.result.now c.args.krates.now.crates c.krates.ensures.crates c.krates.ensures.orderly.ids)

@@ -1,7 +1,0 @@
--- A crate with its place, as contracts see it.
-use Rattle.deny_krates.specs.Crates.{crate_view}
-use Rattle.deny_lock.specs.declared.order.Placed.{Placed}
-use Rattle.deny_model.specs.Graph.{Crate}
-
-abbrev pub placed_view : Placed → Crate
-placed_view p = crate_view p.place p.krate.now

@@ -1,8 +1,0 @@
--- When metadata has no fault.
-use Rattle.std.specs.Prelude.{◌≡◌, ℕ, List, Ok}
-use Rattle.deny_resolve.specs.Checked.{Resolved, checked}
-
--- the bytes are metadata without fault, and so have a graph
-pub record HasNoFault (metadata : List ℕ) : Type 0 where
-  pub read : Resolved
-  pub is_read : checked metadata ≡ Ok read

@@ -1,8 +1,0 @@
-pub mod BorrowedLemmas
-pub mod ElementsLemmas
-pub mod FeaturesLemmas
-pub mod PartsLemmas
-pub mod PrunedLemmas
-pub mod ReadBackLemmas
-pub mod WantedLemmas
-pub mod WholeLemmas

@@ -1,3 +1,0 @@
-pub mod Borrowed
-pub mod Wanted
-pub mod Parts

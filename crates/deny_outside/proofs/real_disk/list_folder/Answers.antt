@@ -1,5 +1,0 @@
-use Rattle.deny_lists.proofs.Orders.{text_cmp-exact}
-use Rattle.deny_outside.proofs.real_disk.list_folder.Goals as goal
-
-pub put_records_in_order-requires : goal.put_records_in_order-requires
-put_records_in_order-requires c = text_cmp-exact

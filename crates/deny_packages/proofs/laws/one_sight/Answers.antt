@@ -1,6 +1,0 @@
-use Rattle.deny_packages.proofs.OneSightLemmas.{same_sight}
-use Rattle.deny_packages.proofs.laws.one_sight.Goals as goal
-
-pub returns : goal.returns
-returns c = λ b g files reached other home unread packages others tells tells_too one two failures.
-    same_sight files b g reached other home unread packages others tells tells_too one two failures

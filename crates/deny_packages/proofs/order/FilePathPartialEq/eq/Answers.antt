@@ -1,6 +1,0 @@
-use Rattle.std.proofs.Common.{◌∙◌}
-use Rattle.deny_packages.proofs.OrderLemmas.{same_paths}
-use Rattle.deny_packages.proofs.order.FilePathPartialEq.eq.Goals as goal
-
-pub returns : goal.returns
-returns c = c.eq.ensures ∙ same_paths c.args.self.now.path c.args.other.now.path

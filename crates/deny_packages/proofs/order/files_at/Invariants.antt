@@ -1,5 +1,0 @@
-use Rattle.std.proofs.Common.{◌≡◌, map}
-use Rattle.deny_packages.proofs.order.files_at.Given as goal
-
-abbrev pub invariant-paths : goal.invariant-paths
-invariant-paths l = map (λ file. file.path) l.files ≡ l.yielded

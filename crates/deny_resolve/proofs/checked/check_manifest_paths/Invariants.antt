@@ -1,8 +1,0 @@
-use Rattle.std.proofs.Common.{◌≡◌, drop}
-use Rattle.deny_resolve.specs.Checked.{manifest_path_reads}
-use Rattle.deny_lists.specs.Reader.{each_passes}
-use Rattle.deny_resolve.proofs.checked.check_manifest_paths.Given as goal
-
-abbrev pub invariant-loop-listed : goal.invariant-loop-listed
-invariant-loop-listed l = each_passes manifest_path_reads l.packages ≡ each_passes manifest_path_reads
-    (drop l.listed-index l.packages)

@@ -1,5 +1,0 @@
-use Rattle.deny_resolve.proofs.SourceLemmas.{after_is}
-use Rattle.deny_resolve.proofs.source.text_after.Goals as goal
-
-pub returns : goal.returns
-returns c = after_is c.strip_prefix.result c.args.prefix.now c.args.text.now c.strip_prefix.ensures.cases

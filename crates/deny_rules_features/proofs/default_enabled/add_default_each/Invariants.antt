@@ -1,0 +1,12 @@
+use Rattle.std.proofs.Common.{◌≡◌, ◌++◌, ◌-◌}
+use Rattle.std.specs.List.{flat_map, range_with_len}
+use Rattle.deny_cfg.specs.PolicyView.{policy_view}
+use Rattle.deny_rules_features.specs.private.Keys.{default_keys_at}
+use Rattle.deny_rules_features.proofs.default_enabled.add_default_each.Given as goal
+
+abbrev pub invariant-loop-place : goal.invariant-loop-place
+invariant-loop-place l =
+    l.keys ++ flat_map (default_keys_at (policy_view l.cfg) l.krates l.matched l.unsettled)
+    (range_with_len l.place (l.end - l.place))
+    ≡ l.fn.keys ++ flat_map (default_keys_at (policy_view l.cfg) l.krates l.matched l.unsettled)
+    (range_with_len 0 l.end)

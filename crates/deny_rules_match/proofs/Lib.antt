@@ -1,0 +1,10 @@
+pub mod RunLemmas
+pub mod MarkLemmas
+pub mod MatchingLemmas
+pub mod WrapperLemmas
+pub mod DependentLemmas
+pub mod NeighbourLemmas
+pub mod FactLemmas
+pub mod GroupLemmas
+pub mod ExemptLemmas
+pub mod MatchLemmas

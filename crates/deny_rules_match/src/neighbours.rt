@@ -1,0 +1,79 @@
+//! Steps along the edges of a graph, or against them.
+ghost use Rattle.std.specs.Prelude.{◌≡◌};
+
+use deny_base_lists::Neighbours;
+use deny_krates::{DirectDependent, Krates};
+
+/// Steps along edges: from each crate to those that it needs.
+#[derive(Drop)]
+pub struct DependencySteps<'k> {
+    pub krates: &'k Krates,
+}
+
+/// Steps against edges: from each crate to those that need it.
+#[derive(Drop)]
+pub struct DependentSteps<'k> {
+    pub krates: &'k Krates,
+}
+
+impl<'k> Neighbours for DependencySteps<'k> {
+    ghost use Rattle.std.specs.Prelude.{length};
+    ghost use Rattle.deny_spec.specs.Graph.{dependencies};
+    ghost use Rattle.deny_rules_match.specs.Steps.{HasEdge};
+
+    type Neighbour = DirectDependent;
+
+    ghost count = { λ d. length d.krates.now.crates };
+
+    ghost leads = { λ d. HasEdge d.krates.now };
+
+    ghost degree = { λ d place. length (dependencies d.krates.now place) };
+
+    ghost place_of = { λ d. d.place };
+
+    fn count(&self) -> usize {
+        self.krates.krates().len()
+    }
+
+    fn neighbours(&self, place: u32) -> &[DirectDependent] {
+        let _orderly = self.krates.krates();
+        self.krates.direct_dependencies(place)
+    }
+
+    fn place_of(neighbour: &DirectDependent) -> u32
+        ensures { result ≡ neighbour.now.place }
+    {
+        neighbour.place
+    }
+}
+
+impl<'k> Neighbours for DependentSteps<'k> {
+    ghost use Rattle.std.specs.Prelude.{length};
+    ghost use Rattle.deny_spec.specs.Graph.{dependents};
+    ghost use Rattle.deny_rules_match.specs.Steps.{HasEdgeFrom};
+
+    type Neighbour = DirectDependent;
+
+    ghost count = { λ d. length d.krates.now.crates };
+
+    ghost leads = { λ d. HasEdgeFrom d.krates.now };
+
+    ghost degree = { λ d place. length (dependents d.krates.now place) };
+
+    ghost place_of = { λ d. d.place };
+
+    fn count(&self) -> usize {
+        self.krates.krates().len()
+    }
+
+    fn neighbours(&self, place: u32) -> &[DirectDependent] {
+        let _orderly = self.krates.krates();
+        self.krates.direct_dependents(place)
+    }
+
+    fn place_of(neighbour: &DirectDependent) -> u32
+        ensures { result ≡ neighbour.now.place }
+    {
+        neighbour.place
+    }
+}

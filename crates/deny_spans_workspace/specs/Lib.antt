@@ -1,0 +1,10 @@
+pub mod Agreement
+pub mod DepSpec
+pub mod Entries
+pub mod ManifestKey
+pub mod Origin
+pub mod Paths
+pub mod Registries
+pub mod Repositories
+pub mod Workspace
+pub mod private

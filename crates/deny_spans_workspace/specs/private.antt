@@ -1,0 +1,3 @@
+pub mod DepSpec
+pub mod Entries
+pub mod Workspace

@@ -1,0 +1,16 @@
+//! What the entries of `workspace.dependencies` resolve to, by the tree of the workspace's manifest, a
+//! graph and the known registries. Nothing is read from a disk.
+#![tactic(auto)]
+
+mod agreement;
+mod dep_spec;
+mod entries;
+mod manifest_key;
+mod origin;
+mod paths;
+mod registries;
+mod repositories;
+mod workspace;
+
+pub use registries::Registry;
+pub use workspace::{UnusedWorkspaceDep, WorkspaceDeps, WorkspaceSpan, workspace_deps};

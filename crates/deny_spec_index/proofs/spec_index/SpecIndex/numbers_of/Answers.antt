@@ -1,5 +1,0 @@
-use Rattle.std.proofs.Common.{arith}
-use Rattle.deny_spec_index.proofs.spec_index.SpecIndex.numbers_of.Goals as goal
-
-pub find_uncounted-requires-clause-whole : goal.find_uncounted-requires-clause-whole
-find_uncounted-requires-clause-whole c = omega (arith, c.new.ensures)

@@ -1,0 +1,144 @@
+-- Worked cases of spans that are replaced; and why different spans of two wrappers of one ban must stay different, and
+-- those of two ignores, two licences and two exceptions.
+use Rattle.std.proofs.Common.{◌≡◌, ◌+◌, ℕ, [], ◌∷◌, Some, codes, map, refl, true}
+use Rattle.deny_base.specs.declared.code.Code.TheVariants as code
+use Rattle.deny_base.specs.declared.level.LintLevel.TheVariants.{Warn}
+use Rattle.deny_spec.specs.Keys.{crate_key, dependent_key, key_of, no_span, unused_key}
+use Rattle.deny_spec.specs.Licensing.{Licensing}
+use Rattle.deny_spec.specs.Match.{matches}
+use Rattle.deny_spec.specs.Policy.{FeatureEntry, Policy}
+use Rattle.deny_spec_report.specs.Features.{is_enabled, is_mismatch_reported, is_mismatched, mismatched_keys}
+use Rattle.deny_spec_report.specs.Features.{mismatched_keys_of}
+use Rattle.deny_spec_report.specs.Features.{missing, unlisted}
+use Rattle.deny_spec_report.specs.Licences.{exception_not_encountered_keys, licence_hits, not_encountered_keys}
+use Rattle.deny_spec_report.specs.Wildcards.{unresolved_keys}
+use Rattle.deny_spec_report.proofs.Cases.{all_count, allow_at, app, ban_at, ban_keys, bans_on_cases, by_two, on_cases}
+use Rattle.deny_spec_report.proofs.Cases.{one_x, plain, span, spec_at, spanned_at}
+use Rattle.deny_spec_report.proofs.LicenceRows.{allowed_at, alone, every, exception_at, excepted_by, gpl, granting}
+use Rattle.deny_spec_report.proofs.LicenceRows.{hit_by}
+use Rattle.deny_spec_report.proofs.LicenceRows.{licences_on_cases, mit, unmet, unmet_exception}
+use Rattle.deny_spec_report.proofs.ManifestCases.{any_version, behind, seeing, sharing_it, written}
+use Rattle.deny_spec_report.proofs.SharingRows.{sharing_on_cases, unused_at}
+use Rattle.deny_spec_report.proofs.WildcardRows.{checking, wildcards_on_cases}
+use Rattle.deny_spec_removal.specs.Renaming.{Renaming, renamed, renamed_key, renamed_licensing}
+use Rattle.deny_spec_removal.proofs.IgnoreCases.{hit_by_x, hits_by, ignores_on_cases, two_ignores, unmatched_by}
+
+unfoldable pub farther : Renaming
+farther = record { span = λ a. record { start = a.start + 100; end = a.end + 100 }; number = λ n. n }
+
+unfoldable pub all_at_once : Renaming
+all_at_once = record { span = λ a. span 7; number = λ n. n }
+
+x_by_app_app : Policy
+x_by_app_app = record plain {
+  deny = ban_at (codes "x") (spanned_at (codes "app") 30 ∷ spanned_at (codes "app") 50 ∷ []) 16 ∷ [];
+}
+
+before : ban_keys x_by_app_app one_x
+    ≡ dependent_key code.AllowedByWrapper 1 (span 16) 0 ∷ unused_key code.UnusedWrapper (span 50) ∷ []
+unfolding bans_on_cases x_by_app_app
+before = refl
+
+afterwards : ban_keys (renamed farther x_by_app_app) one_x
+    ≡ dependent_key code.AllowedByWrapper 1 (span 116) 0 ∷ unused_key code.UnusedWrapper (span 150) ∷ []
+unfolding bans_on_cases x_by_app_app farther
+afterwards = refl
+
+-- where two wrappers get one span, the second is hit with the first
+not_apart : ban_keys (renamed all_at_once x_by_app_app) one_x ≡ dependent_key code.AllowedByWrapper 1 (span 7) 0 ∷ []
+unfolding bans_on_cases x_by_app_app all_at_once
+not_apart = refl
+
+-- a finding that shows no entry keeps the empty span
+no_entry : map (renamed_key farther) (ban_keys (record plain { allow = allow_at (codes "x") 18 ∷ [] }) by_two)
+    ≡ crate_key code.Allowed 1 (span 118) ∷ crate_key code.NotAllowed 0 no_span ∷ crate_key code.NotAllowed 2 no_span
+    ∷ []
+unfolding bans_on_cases farther
+no_entry = refl
+
+-- a finding that shows a span of a manifest keeps it
+unresolved_stays : unresolved_keys (renamed farther checking) (behind app) all_count
+    (seeing (sharing_it (written any_version 1 10) ∷ []))
+    ≡ crate_key code.UnresolvedWorkspaceDependency 0 (span 10) ∷ []
+unfolding wildcards_on_cases farther
+unresolved_stays = refl
+
+span_of_a_manifest : map (renamed_key farther) (crate_key code.UnresolvedWorkspaceDependency 0 (span 10) ∷ [])
+    ≡ crate_key code.UnresolvedWorkspaceDependency 0 (span 10) ∷ []
+unfolding wildcards_on_cases farther
+span_of_a_manifest = refl
+
+span_of_an_entry : map (renamed_key farther) (unused_at 60 ∷ []) ≡ unused_at 60 ∷ []
+unfolding sharing_on_cases unused_at farther
+span_of_an_entry = refl
+
+-- ---- ignores
+
+second_unmatched : unmatched_by (renamed farther two_ignores)
+    ≡ unused_key code.UnmatchedReplacementIgnore (span 139) ∷ []
+unfolding ignores_on_cases farther
+second_unmatched = refl
+
+first_hit : hits_by (renamed farther two_ignores) ≡ hit_by_x (span 129) ∷ []
+unfolding ignores_on_cases farther
+first_hit = refl
+
+-- where two entries get one span, the second is hit with the first
+ignores_not_apart : hits_by (renamed all_at_once two_ignores) ≡ hit_by_x (span 7) ∷ hit_by_x (span 7) ∷ []
+unfolding ignores_on_cases all_at_once
+ignores_not_apart = refl
+
+-- ---- features: the lists, their texts and the flag whether they are exact have spans of their own
+
+feature_at : ℕ → FeatureEntry
+feature_at start = record {
+  spec = spec_at (codes "x") start;
+  allow = record { value = spanned_at (codes "a") (start + 2) ∷ []; span = span (start + 1) };
+  deny = spanned_at (codes "d") (start + 3) ∷ [];
+  exact = record { value = true; span = span (start + 4) };
+}
+
+features_farther : (renamed farther (record plain { features = feature_at 20 ∷ [] })).features
+    ≡ feature_at 120 ∷ []
+unfolding on_cases feature_at farther
+features_farther = refl
+
+levels_farther : (renamed farther (record plain {
+  workspace_default = Some (record { value = Warn; span = span 20 });
+})).workspace_default ≡ Some (record { value = Warn; span = span 120 })
+unfolding on_cases farther
+levels_farther = refl
+
+-- `x` lacks a feature that its entry requires: the finding is at the entry's new span
+mismatched_farther : mismatched_keys (renamed farther (record plain { features = feature_at 20 ∷ [] })) one_x
+    ≡ crate_key code.ExactFeaturesMismatch 1 (span 120) ∷ []
+unfolding on_cases feature_at farther mismatched_keys_of is_mismatch_reported is_mismatched unlisted missing is_enabled
+    matches key_of
+mismatched_farther = refl
+
+-- ---- licences and exceptions
+
+unfoldable mit_twice : Licensing
+mit_twice = granting (allowed_at mit 20 ∷ allowed_at mit 27 ∷ [])
+    (exception_at (codes "x") 40 gpl ∷ exception_at (codes "x") 50 gpl ∷ [])
+
+licences_farther : (not_encountered_keys every (renamed_licensing farther mit_twice) (alone (codes "MIT OR GPL-2.0"))
+    ≡ unmet 127 ∷ [])
+    × (exception_not_encountered_keys every (renamed_licensing farther mit_twice) (alone (codes "MIT OR GPL-2.0"))
+    ≡ unmet_exception 150 ∷ [])
+    × (licence_hits every (renamed_licensing farther mit_twice) (alone (codes "MIT OR GPL-2.0"))
+    ≡ hit_by (codes "x") 120 ∷ excepted_by (codes "x") 140 ∷ [])
+unfolding licences_on_cases mit_twice farther
+licences_farther = (refl, refl, refl)
+
+-- an exception's own licences have new spans too
+excepted_farther : (renamed_licensing farther mit_twice).exceptions
+    ≡ exception_at (codes "x") 140 gpl ∷ exception_at (codes "x") 150 gpl ∷ []
+unfolding licences_on_cases mit_twice farther
+excepted_farther = refl
+
+-- where two entries get one span, the second is hit with the first
+licences_not_apart : licence_hits every (renamed_licensing all_at_once mit_twice) (alone (codes "MIT OR GPL-2.0"))
+    ≡ hit_by (codes "x") 7 ∷ hit_by (codes "x") 7 ∷ excepted_by (codes "x") 7 ∷ excepted_by (codes "x") 7 ∷ []
+unfolding licences_on_cases mit_twice all_at_once
+licences_not_apart = refl

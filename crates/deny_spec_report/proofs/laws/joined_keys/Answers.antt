@@ -1,0 +1,5 @@
+use Rattle.deny_spec_report.proofs.Joined.{joined}
+use Rattle.deny_spec_report.proofs.laws.joined_keys.Goals as goal
+
+pub returns : goal.returns
+returns c = λ d facts xs ys these those. joined d facts xs ys these those

@@ -1,0 +1,32 @@
+-- Which keys ask nothing of files, and which check a section belongs to.
+use Rattle.std.specs.Prelude.{Bool, true, false, List, filter}
+use Rattle.deny_base.specs.Code.{asks_no_file}
+use Rattle.deny_base.specs.declared.key.Key.{Key}
+use Rattle.deny_base.specs.declared.key.Section.{Section}
+use Rattle.deny_base.specs.declared.key.Section.TheVariants as section
+
+-- the keys whose codes ask nothing of files
+abbrev pub unseeing : List Key → List Key
+unseeing keys = filter (λ key. asks_no_file key.code) keys
+
+-- the sections of the bans check
+abbrev pub is_of_bans : Section → Bool
+is_of_bans section.Deprecated = true
+is_of_bans section.Crates = true
+is_of_bans section.Groups = true
+is_of_bans section.Workspace = true
+is_of_bans section.Unused = true
+is_of_bans section.Std = true
+is_of_bans section.Licenses = false
+is_of_bans section.LicensesUnused = false
+
+-- the sections of the licence check
+abbrev pub is_of_licenses : Section → Bool
+is_of_licenses section.Deprecated = false
+is_of_licenses section.Crates = false
+is_of_licenses section.Groups = false
+is_of_licenses section.Workspace = false
+is_of_licenses section.Unused = false
+is_of_licenses section.Std = false
+is_of_licenses section.Licenses = true
+is_of_licenses section.LicensesUnused = true

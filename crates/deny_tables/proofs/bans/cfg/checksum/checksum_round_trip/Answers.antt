@@ -1,5 +1,0 @@
-use Rattle.deny_tables.proofs.ChecksumLaws.{round_trip}
-use Rattle.deny_tables.proofs.bans.cfg.checksum.checksum_round_trip.Goals as goal
-
-pub returns : goal.returns
-returns c = round_trip

@@ -1,3 +1,0 @@
-//! What `[bans]` says.
-
-pub mod cfg;

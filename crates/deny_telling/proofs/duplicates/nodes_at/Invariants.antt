@@ -1,8 +1,0 @@
-use Rattle.std.proofs.Common.{◌≡◌, ◌++◌, drop, map, filter_map}
-use Rattle.deny_model.specs.Told.{crate_at, node_of}
-use Rattle.deny_telling.proofs.duplicates.nodes_at.Given as goal
-
-abbrev pub invariant-loop-place : goal.invariant-loop-place
-invariant-loop-place l =
-    l.nodes ++ map node_of (filter_map (crate_at l.krates) (drop l.place-index l.places)) ≡ map node_of
-    (filter_map (crate_at l.krates) l.places)

@@ -1,3 +1,0 @@
-pub mod EntryNumbers
-pub mod Features
-pub mod Teller

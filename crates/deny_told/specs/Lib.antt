@@ -1,2 +1,0 @@
-pub mod ByRange
-pub mod Told

@@ -1,5 +1,0 @@
-use Rattle.std.proofs.Common.{◌≡◌, ◌++◌}
-use Rattle.deny_toml.proofs.faults.keep_faults.Given as goal
-
-abbrev pub invariant-more : goal.invariant-more
-invariant-more l = l.kept ≡ l.initial.kept ++ l.yielded

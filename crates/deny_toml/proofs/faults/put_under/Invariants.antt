@@ -1,6 +1,0 @@
-use Rattle.std.proofs.Common.{◌≡◌}
-use Rattle.deny_toml.specs.Faults.{under}
-use Rattle.deny_toml.proofs.faults.put_under.Given as goal
-
-abbrev pub invariant-faults : goal.invariant-faults
-invariant-faults l = l.all ≡ under l.name l.yielded

@@ -1,8 +1,0 @@
-pub mod AddedLemmas
-pub mod BoundLemmas
-pub mod CauseLemmas
-pub mod Later
-pub mod ManifestLemmas
-pub mod UnreadEqual
-pub mod UnreadRows
-pub mod ViewLemmas

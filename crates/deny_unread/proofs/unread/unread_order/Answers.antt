@@ -1,8 +1,0 @@
-use Rattle.deny_unread.proofs.UnreadEqual.{unread_cmp-total, unread_cmp-exact}
-use Rattle.deny_unread.proofs.unread.unread_order.Goals as goal
-
-pub returns-clause-total : goal.returns-clause-total
-returns-clause-total c = unread_cmp-total
-
-pub returns-clause-equal : goal.returns-clause-equal
-returns-clause-equal c = unread_cmp-exact

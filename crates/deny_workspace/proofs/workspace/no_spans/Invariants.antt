@@ -1,5 +1,0 @@
-use Rattle.deny_workspace.proofs.WorkspaceLemmas.{AreNone}
-use Rattle.deny_workspace.proofs.workspace.no_spans.Given as goal
-
-abbrev pub invariant-loop : goal.invariant-loop
-invariant-loop l = AreNone l.index l.spans.items
