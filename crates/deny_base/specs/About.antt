@@ -12,7 +12,7 @@ pub record About : Type 0 where
   pub unused : Option EntryKind
   -- whether the entry of the key is a span of the policy, and neither empty nor a span of a manifest
   pub shown : Bool
-  -- whether the code asks nothing of files, so that it is exact on a disk that tells nothing
+  -- whether findings of the code need no manifest and no package, so that they are exact on every disk
   pub free : Bool
   -- whether a finding is about a file of a package, or about an entry for one, and shows no crate
   pub of_path : Bool

@@ -91,7 +91,8 @@ has_entry Deprecated = true
 has_entry (Bans code) = bans_have_entry code
 has_entry (License code) = license_has_entry code
 
--- whether a code asks nothing of files, so that it is exact on a disk that tells nothing; the licence check asks none
+-- whether findings of a code need no manifest and no package, so that they are exact on every disk; those of licences
+-- need none
 abbrev pub is_free : Code → Bool
 is_free code = (about code).free
 

@@ -1,6 +1,21 @@
 //! The types that every layer uses: texts and lists, the outside with its disks and outputs, spans,
 //! levels, codes, keys with their order, diagnostics, entries for what was not read, and the files
 //! that labels point into.
+//!
+//! # Choices
+//!
+//! Codes and sections are compared by their number in the order of declaration, by hand: a derived order of an enum
+//! unfolds into a case for each pair.
+//!
+//! Each enum of codes is numbered by itself, and a base for each check makes numbers of all codes: licence codes begin
+//! after the last code of bans, which is named there, so that no number is written twice. That names and numbers are
+//! distinct is a computation over the list of all codes.
+//!
+//! A file keeps the location of every 256th byte of its text, since a report may have 100,000 labels in one line of
+//! megabytes. These are an invariant of a private type whose value is the text, so no contract names them; the
+//! definition counts characters. A line ends at a newline alone: a carriage return is a character of its line.
+//!
+//! `Files::add` requires fewer than 2^32 - 1 files and a text under 2^32 bytes: it has no answer for more.
 #![tactic(auto)]
 
 mod check;

@@ -2,7 +2,7 @@
 use Rattle.std.proofs.Common.{◌≡◌, ℕ, ◌+◌, ◌≤◌, List, [], ◌++◌, length, take, drop, refl, sym, ap, subst, ◌∙◌, arith}
 use Rattle.std.proofs.Common.{length-append, append-nil, take_all, ltb, ltb-true, ltb-false, ◌<◌, Result, Ok, Err}
 use Rattle.std.proofs.Common.{Bool, true, false, Option, Some, None, IfSome, IsErrAnd, rules}
-use Rattle.std.specs.Prelude.{IsErrOf, MatchOption, if◌then◌else◌, unwrap_or}
+use Rattle.std.specs.Prelude.{IsErrOf, MatchOption, MatchResult, if◌then◌else◌, unwrap_or}
 use Rattle.std.proofs.Math.Seq.{take-add}
 use Rattle.std.proofs.lemmas.List.{length-take, length-take-le}
 use Rattle.std.proofs.lemmas.Option.{none-some}
@@ -38,10 +38,10 @@ text_more (Some files) path bytes buf at n fits here prefix next =
     ∙ ap (λ k. take k (drop (length bytes) text)) (sym all))
 
 pub reading_more : (start old new : Disk) (path bytes buf : List ℕ) (at n : ℕ) → n ≤ length buf → at ≡ length bytes
-    → IsReading start old path bytes → IsLater old new → new.given ≡ counted old.given n
+    → IsReading start old path bytes → IsLater old new → new.given ≡ counted old.given n → new.faults ≡ old.faults
     → IfSome old.files (λ files. IsPieceOf (bytes_at files path) at n buf)
     → IsReading start new path (bytes ++ take n buf)
-reading_more start old new path bytes buf at n fits here reading later given next = record {
+reading_more start old new path bytes buf at n fits here reading later given same next = record {
   later = record {
     files = later.files ∙ reading.later.files;
     faults = omega arith;
@@ -51,6 +51,7 @@ reading_more start old new path bytes buf at n fits here reading later given nex
   };
   given = omega (arith, given, reading.given, length-append bytes (take n buf), length-take-le n buf fits);
   once = omega (arith, given, reading.once, length-append bytes (take n buf), length-take-le n buf fits);
+  faults = same ∙ reading.faults;
   text = (let P : Option Files → Type 0 = λ known. IfSome known (λ files. IsPieceOf (bytes_at files path) at n buf) in
       text_more start.files path bytes buf at n fits here reading.text (subst P reading.later.files next));
 }
@@ -212,3 +213,17 @@ pub end_handed : {T : Type 0} (r : Result T ReadEnd) (first end : ReadEnd) → I
     → IsErrOf r end → first ≡ end
 end_handed (Ok x) first end ended is = absurd ended
 end_handed (Err e) first end ended is = cc
+
+-- the calls that failed before a part, and in it, where its error is handed on
+pub faults_handed : {T E : Type 0} (calls : E → ℕ) (r : Result T E) (end : E) (start before now : ℕ)
+    → IsErrAnd r (λ e. e ≡ end) → before ≡ start → now ≤ before + calls end
+    → MatchResult r (λ _. now ≡ start) (λ e. now ≤ start + calls e)
+faults_handed calls (Ok x) end start before now ended same most = absurd ended
+faults_handed calls (Err e) end start before now ended same most =
+    subst (λ ended_by. now ≤ start + calls ended_by) (sym ended) (omega (arith, same, most))
+
+-- a disk that answers with an error, and has memory, failed one call
+pub one_failed : (calls : DiskError → ℕ) → calls Failed ≡ 1 → (error : DiskError) (before now : ℕ)
+    → (error ≡ Memory → ⊥) → now ≤ before + 1 → now ≤ before + calls error
+one_failed calls one Failed before now answered most = omega (arith, one, most)
+one_failed calls one Memory before now answered most = absurd (answered refl)

@@ -5,7 +5,7 @@ use Rattle.deny_base_disk.specs.Disk.{Disk, Files, IsLater, bytes_at}
 use Rattle.deny_base_disk.specs.declared.disk.DiskError.{DiskError}
 use Rattle.deny_base_disk.specs.declared.disk.DiskError.TheVariants.{Failed, Memory}
 use Rattle.deny_base_disk.specs.declared.read.ReadEnd.{ReadEnd}
-use Rattle.deny_base_disk.specs.declared.read.ReadEnd.TheVariants.{Fault, Memory as OutOfMemory}
+use Rattle.deny_base_disk.specs.declared.read.ReadEnd.TheVariants.{Fault, Long, Memory as OutOfMemory}
 
 -- where the disk tells its files, reading gave at most this number of bytes of them between the two disks
 abbrev pub GaveAtMost : Disk → Disk → (Files → ℕ) → Type 0
@@ -20,6 +20,7 @@ pub record IsReading (start now : Disk) (path bytes : List ℕ) : Type 0 where
   pub later : IsLater start now
   pub given : RoseBy (length bytes) start.given now.given
   pub once : now.given ≤ start.given + length bytes
+  pub faults : now.faults ≡ start.faults
   pub text : IfSome start.files (λ files. bytes ≡ take (length bytes) (bytes_at files path))
 
 -- the bytes are all of the path's text
@@ -30,3 +31,9 @@ IsWhole start path bytes = IfSome start.files (λ files. bytes ≡ bytes_at file
 abbrev pub read_end_of : DiskError → ReadEnd
 read_end_of Failed = Fault
 read_end_of Memory = OutOfMemory
+
+-- how many calls failed, at most, where reading ended so
+abbrev pub failed_calls : ReadEnd → ℕ
+failed_calls Fault = 1
+failed_calls Long = 0
+failed_calls OutOfMemory = 0

@@ -1,4 +1,4 @@
-ghost use Rattle.std.specs.Prelude.{◌≡◌, ◌≤◌, length, IfOk, IfSome, IsErrOf, MatchResult};
+ghost use Rattle.std.specs.Prelude.{◌≡◌, ◌+◌, ◌≤◌, length, IfOk, IfSome, IsErrOf, MatchResult};
 ghost use Rattle.deny_base_disk.specs.Children.{AreListed, children};
 ghost use Rattle.deny_base_disk.specs.Count.{counted};
 ghost use Rattle.deny_base_disk.specs.Disk.{Disk, IsLater, FailedAt, IsPieceOf, bytes_at};
@@ -93,6 +93,8 @@ where
 ///
 /// A failed call raises the count of its own kind and path, and no clause says that a call raises
 /// another count. Code over any disk therefore shows such a rise only by a failed call on that path.
+/// A call that succeeds leaves the count of all failed calls, and any other raises it by at most
+/// one. Code over any disk therefore shows that a call failed and was not forgotten.
 pub trait PackageFiles {
     ghost seen: { Self → Disk };
 
@@ -110,7 +112,10 @@ pub trait PackageFiles {
             (λ _. (seen self.new).listed ≡ (seen self.old).listed) }
         ensures given { (seen self.new).given ≡ (seen self.old).given }
         ensures failed { IsErrOf result DiskError.Failed →
-            FailedAt (seen self.old) (seen self.new) Call.List dir.now };
+            FailedAt (seen self.old) (seen self.new) Call.List dir.now }
+        ensures faults { MatchResult result
+            (λ _. (seen self.new).faults ≡ (seen self.old).faults)
+            (λ _. (seen self.new).faults ≤ (seen self.old).faults + 1) };
 
     /// Reads bytes of the file at `path`, from `offset` on, into the start of `buf`, and returns how
     /// many: 0 only for an empty buffer or at the end of the text. Where a disk answers for a path
@@ -128,5 +133,8 @@ pub trait PackageFiles {
         ensures listed { (seen self.new).listed ≡ (seen self.old).listed }
         ensures failed { IsErrOf result DiskError.Failed →
             FailedAt (seen self.old) (seen self.new) Call.Read path.now }
+        ensures faults { MatchResult result
+            (λ _. (seen self.new).faults ≡ (seen self.old).faults)
+            (λ _. (seen self.new).faults ≤ (seen self.old).faults + 1) }
         ensures no_memory { IsErrOf result DiskError.Memory → ⊥ };
 }

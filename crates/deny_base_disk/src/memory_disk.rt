@@ -1,4 +1,4 @@
-ghost use Rattle.std.specs.Prelude.{◌≡◌, ◌-◌, ◌<◌, ◌≤◌, ◌++◌, ◌∷◌, [], ◌↔◌, false, length, min};
+ghost use Rattle.std.specs.Prelude.{◌≡◌, ◌+◌, ◌-◌, ◌<◌, ◌≤◌, ◌++◌, ◌∷◌, [], ◌↔◌, false, length, min};
 ghost use Rattle.std.specs.Prelude.{slice_index, Option, Ok, Err, Some, None, IfOk};
 ghost use Rattle.std.specs.Prelude.{IsErrOf, IsTrue, OnOk, OnErr, MatchOption, MatchResult};
 ghost use Rattle.std.specs.Option.{option_copied};
@@ -303,6 +303,9 @@ impl PackageFiles for MemoryDisk {
         ensures given { self.new.given ≡ self.old.given }
         ensures failed { IsErrOf result DiskError.Failed →
             FailedAt (memory_seen self.old) (memory_seen self.new) Call.List dir.now }
+        ensures faults { MatchResult result
+            (λ _. self.new.faults ≡ self.old.faults)
+            (λ _. self.new.faults ≤ self.old.faults + 1) }
 
         ensures exact { IsErrOf result DiskError.Failed ↔ (is_listing self.old dir.now ≡ false) }
         ensures after { MatchResult result
@@ -334,6 +337,9 @@ impl PackageFiles for MemoryDisk {
         ensures listed { self.new.listed ≡ self.old.listed }
         ensures failed { IsErrOf result DiskError.Failed →
             FailedAt (memory_seen self.old) (memory_seen self.new) Call.Read path.now }
+        ensures faults { MatchResult result
+            (λ _. self.new.faults ≡ self.old.faults)
+            (λ _. self.new.faults ≤ self.old.faults + 1) }
         ensures no_memory { IsErrOf result DiskError.Memory → ⊥ }
 
         ensures exact { MatchOption (text_to_read self.old path.now)

@@ -1,8 +1,8 @@
-ghost use Rattle.std.specs.Prelude.{◌≡◌, ◌<◌, ◌≤◌, ◌^◌, length, IfOk};
-ghost use Rattle.std.specs.Prelude.{IfSome, IsErrOf, true, false, IsOk, Ok};
+ghost use Rattle.std.specs.Prelude.{◌≡◌, ◌+◌, ◌<◌, ◌≤◌, ◌^◌, length, IfOk};
+ghost use Rattle.std.specs.Prelude.{IfSome, IsErrOf, MatchResult, true, false, IsOk, Ok};
 ghost use Rattle.deny_base_disk.specs.Count.{RoseBy};
 ghost use Rattle.deny_base_disk.specs.Disk.{Disk, IsLater, FailedAt, bytes_at};
-ghost use Rattle.deny_base_disk.specs.Read.{GaveOnce, IsReading, IsWhole};
+ghost use Rattle.deny_base_disk.specs.Read.{GaveOnce, IsReading, IsWhole, failed_calls};
 
 use crate::disk::{Call, DiskError, PackageFiles};
 use deny_base_lists::NoMemory;
@@ -81,6 +81,9 @@ fn read_piece<D: PackageFiles>(
     ensures later { IsLater (D.seen disk.old) (D.seen disk.new) }
     ensures fault { IsErrOf result ReadEnd.Fault →
         FailedAt (D.seen disk.old) (D.seen disk.new) Call.Read path.now }
+    ensures faults { MatchResult result
+        (λ _. (D.seen disk.new).faults ≡ (D.seen disk.old).faults)
+        (λ end. (D.seen disk.new).faults ≤ (D.seen disk.old).faults + failed_calls end) }
     ensures never_long { IsErrOf result ReadEnd.Long → ⊥ }
 {
     let n = disk.read_at(path, bytes.as_slice().len() as u64, piece)?;
@@ -91,8 +94,9 @@ fn read_piece<D: PackageFiles>(
 /// Reads the text at `path` to its end.
 ///
 /// `Fault` comes only where a read of this path failed, `Long` only where the text has 2^28 bytes
-/// or more; a text of that size is never returned. Whatever the result, the disk gave at most as
-/// many bytes as the text has. The time grows with the text alone.
+/// or more; a text of that size is never returned. No call failed but the one that ended the
+/// reading as a `Fault`. Whatever the result, the disk gave at most as many bytes as the text has.
+/// The time grows with the text alone.
 pub fn read_whole<D: PackageFiles>(
     alloc: Global,
     disk: &mut D,
@@ -107,6 +111,9 @@ pub fn read_whole<D: PackageFiles>(
     ensures later { IsLater (D.seen disk.old) (D.seen disk.new) }
     ensures fault { IsErrOf result ReadEnd.Fault →
         FailedAt (D.seen disk.old) (D.seen disk.new) Call.Read path.now }
+    ensures faults { MatchResult result
+        (λ _. (D.seen disk.new).faults ≡ (D.seen disk.old).faults)
+        (λ end. (D.seen disk.new).faults ≤ (D.seen disk.old).faults + failed_calls end) }
     ensures long_by_count { IsErrOf result ReadEnd.Long →
         RoseBy (2 ^ 28) (D.seen disk.old).given (D.seen disk.new).given }
     ensures long_by_text { IsErrOf result ReadEnd.Long → IfSome (D.seen disk.old).files

@@ -85,13 +85,9 @@ impl LastFile {
     }
 }
 
-/// The disk error for an error of the system. Out of memory is no failure of the disk.
-fn disk_error(error: io::Error) -> DiskError {
-    if error.kind() == io::ErrorKind::OutOfMemory {
-        DiskError::Memory
-    } else {
-        DiskError::Failed
-    }
+/// The disk error for an error of the system: a failure, also where the system itself has no memory.
+fn disk_error(_error: io::Error) -> DiskError {
+    DiskError::Failed
 }
 
 /// The number of bytes of names that one call asks for.

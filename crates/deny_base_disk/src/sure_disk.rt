@@ -1,4 +1,4 @@
-ghost use Rattle.std.specs.Prelude.{◌≡◌, ◌-◌, ◌≤◌, length, min, Ok, IfOk, IsErrOf, IsTrue, OnOk, OnErr, MatchResult};
+ghost use Rattle.std.specs.Prelude.{◌≡◌, ◌+◌, ◌-◌, ◌≤◌, length, min, Ok, IfOk, IsErrOf, IsTrue, OnOk, OnErr, MatchResult};
 ghost use Rattle.std.specs.FinMap as finite;
 ghost use Rattle.deny_base_disk.specs.Children.{AreListed, children};
 ghost use Rattle.deny_base_disk.specs.Count.{counted};
@@ -90,6 +90,9 @@ impl PackageFiles for SureDisk {
         ensures given { self.new.given ≡ self.old.given }
         ensures failed { IsErrOf result DiskError.Failed →
             FailedAt (sure_seen self.old) (sure_seen self.new) Call.List dir.now }
+        ensures faults { MatchResult result
+            (λ _. (sure_seen self.new).faults ≡ (sure_seen self.old).faults)
+            (λ _. (sure_seen self.new).faults ≤ (sure_seen self.old).faults + 1) }
 
         ensures exact { IsErrOf result DiskError.Failed → ⊥ }
         ensures after { MatchResult result
@@ -114,6 +117,9 @@ impl PackageFiles for SureDisk {
         ensures listed { self.new.listed ≡ self.old.listed }
         ensures failed { IsErrOf result DiskError.Failed →
             FailedAt (sure_seen self.old) (sure_seen self.new) Call.Read path.now }
+        ensures faults { MatchResult result
+            (λ _. (sure_seen self.new).faults ≡ (sure_seen self.old).faults)
+            (λ _. (sure_seen self.new).faults ≤ (sure_seen self.old).faults + 1) }
         ensures no_memory { IsErrOf result DiskError.Memory → ⊥ }
 
         ensures exact { result ≡ Ok (min (length buf.new) (length (bytes_at self.old.files path.now) - offset)) }

@@ -1,5 +1,15 @@
 //! Types and algorithms of no subject of their own: texts and lists that contracts see as such,
 //! maps from texts, lists put in order, binary search, breadth-first search, and counters of steps.
+//!
+//! # Choices
+//!
+//! A graph that is walked says which places lead to which by a relation, and a bound on each row's length, so that
+//! callers hand over their own rows and nothing is copied. A step of a walk is a place taken or a neighbour visited.
+//!
+//! Where records are put in order, the first of those with the same key stays.
+//!
+//! A `Text` is compared as a `str`: std compares many bytes of a `str` at a time, and those of a slice one by one.
+//! Maps, sorts and searches of names and paths all depend on it.
 #![tactic(auto)]
 
 mod list;

@@ -23,6 +23,7 @@ pub trait Keyed {
 
     ghost key: { Self → Self.Key };
 
+    /// The key of the record.
     fn key(&self) -> &Self::Key
         ensures { result.now ≡ key self.now };
 }

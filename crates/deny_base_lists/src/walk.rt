@@ -31,14 +31,18 @@ pub trait Neighbours {
     /// The place of a neighbour.
     ghost place_of: { Self.Neighbour → ℕ };
 
+    /// How many places there are.
     fn count(&self) -> usize
         ensures { result ≡ count self.now };
 
+    /// The row of a place: exactly the places to which an edge leads from it, in any order. A place may be
+    /// there several times.
     fn neighbours(&self, place: u32) -> &[Self::Neighbour]
         requires { place < count self.now }
         ensures each { (n : ℕ) → leads self.now place n ↔ Contains (map Self.place_of result.now) n }
         ensures few { length result.now ≤ degree self.now place };
 
+    /// The place of a neighbour.
     fn place_of(neighbour: &Self::Neighbour) -> u32
         ensures { result ≡ place_of neighbour.now };
 }

@@ -1,6 +1,11 @@
 //! The rules on build scripts and on the files of packages, by what was seen of packages: the keys
 //! that hold, and the hits of the entries that let something pass. The checks of one file, and which
 //! crates lead to one that executes at build time, are handed on from the crates below.
+//!
+//! # Choices
+//!
+//! Findings of files are in the order of their codes, entries, and paths as they are shown, byte by byte; the first
+//! file that hits a path or a glob is that by components, `a/b` before `a-b`.
 #![tactic(auto)]
 
 mod build_keys;

@@ -1,5 +1,12 @@
 //! What a policy says of a crate's build script and packaged files before any file is read: whether
 //! the crate is checked, which bypass matches it, and what the bypass lets pass.
+//!
+//! # Choices
+//!
+//! The allowed path of a file is found by an index of the allowed paths by their components, which is made once for
+//! each package; candidates are compared by their components anyway, so that nothing has to be proved of equal texts in
+//! the index. A crate is compared with each bypass, and a file of which globs decide is reported by going through all
+//! globs; such lists are short, and no index of them is kept.
 #![tactic(auto)]
 
 mod bypass;

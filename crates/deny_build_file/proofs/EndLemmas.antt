@@ -1,6 +1,6 @@
 -- How the check of a file ends, and what was read by then.
 use Rattle.std.proofs.Common.{◌≡◌, ℕ, ◌≤◌, Result, Ok, Err, IfOk, IsErrAnd, refl, arith}
-use Rattle.std.specs.Prelude.{IsErrOf}
+use Rattle.std.specs.Prelude.{IsErrOf, MatchResult}
 use Rattle.deny_base_disk.specs.Count.{RoseBy}
 use Rattle.deny_base_disk.specs.declared.disk.DiskError.{DiskError}
 use Rattle.deny_base_disk.specs.declared.disk.DiskError.TheVariants.{Failed, Memory}
@@ -35,6 +35,12 @@ pub no_value : {T : Type 0} (Q : T → Type 0) (r : Result T CheckEnd) (end : Ch
     → IfOk r Q
 no_value Q (Ok x) end ended = absurd ended
 no_value Q (Err e) end ended = tt
+
+-- what is so of every error
+pub ended_so : {T : Type 0} (P : T → Type 0) (Q : Type 0) (r : Result T CheckEnd) (end : CheckEnd)
+    → IsErrAnd r (λ e. e ≡ end) → Q → MatchResult r P (λ _. Q)
+ended_so P Q (Ok x) end ended holds = absurd ended
+ended_so P Q (Err e) end ended holds = holds
 
 -- an error that is handed on is that error
 pub end_handed : {T : Type 0} (r : Result T CheckEnd) (first end : CheckEnd) → IsErrAnd r (λ e. e ≡ first)

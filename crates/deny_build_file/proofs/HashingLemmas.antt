@@ -14,15 +14,15 @@ use Rattle.deny_build_file.specs.private.Hashing.{IsHashing, HasHashed}
 
 pub hashing_more : (start old new : Disk) (path buf : List ℕ) (before after : Sha256) (count n : ℕ)
     → n ≤ length buf → IsHashing start old path before count → IsLater old new → new.given ≡ counted old.given n
-    → IfSome old.files (λ files. IsPieceOf (bytes_at files path) count n buf)
+    → new.faults ≡ old.faults → IfSome old.files (λ files. IsPieceOf (bytes_at files path) count n buf)
     → ((m : List ℕ) → Holds256 before m → Holds256 after (m ++ take n buf))
     → IsHashing start new path after (count + n)
-hashing_more start old new path buf before after count n fits hashing later given next taken = record {
+hashing_more start old new path buf before after count n fits hashing later given same next taken = record {
   message = hashing.message ++ take n buf;
   holds = taken hashing.message hashing.holds;
   long = omega (arith, length-append hashing.message (take n buf), length-take-le n buf fits, hashing.long);
   reading = reading_more start old new path hashing.message buf count n fits (sym hashing.long) hashing.reading later
-      given next;
+      given same next;
 }
 
 abbrev bool_of : Result Bool CheckEnd → Bool

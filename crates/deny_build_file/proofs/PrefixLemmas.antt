@@ -28,22 +28,24 @@ nothing_read start path = record {
   later = later_same start;
   given = omega arith;
   once = omega arith;
+  faults = refl;
   text = none_read start.files path;
 }
 
 -- the piece that was read follows the first `at` bytes of the buffer, which are a prefix of the text
 pub reading_in_place : (start old new : Disk) (path buffer piece rest : List ℕ) (at n : ℕ) → at ≤ length buffer
     → n ≤ length piece → IsReading start old path (take at buffer) → IsLater old new
-    → new.given ≡ counted old.given n → IfSome old.files (λ files. IsPieceOf (bytes_at files path) at n piece)
+    → new.given ≡ counted old.given n → new.faults ≡ old.faults
+    → IfSome old.files (λ files. IsPieceOf (bytes_at files path) at n piece)
     → IsReading start new path (take (at + n) (take at buffer ++ (piece ++ rest)))
-reading_in_place start old new path buffer piece rest at n inside fits reading later given next =
+reading_in_place start old new path buffer piece rest at n inside fits reading later given same next =
     let prefix = take at buffer in
     let long : length prefix ≡ at = length-take-le at buffer inside in
     let filled : take (at + n) (prefix ++ (piece ++ rest)) ≡ prefix ++ take n piece
     = ap (λ k. take (k + n) (prefix ++ (piece ++ rest))) (sym long)
     ∙ (take-append-add prefix (piece ++ rest) n ∙ ap (λ bytes. prefix ++ bytes) (take-append-le n piece rest fits)) in
     subst (IsReading start new path) (sym filled)
-    (reading_more start old new path prefix piece at n fits (sym long) reading later given next)
+    (reading_more start old new path prefix piece at n fits (sym long) reading later given same next)
 
 -- where one passes, the first that passes does not depend on what follows
 first_step : (this any : Bool) (long short count : ℕ) → (any ≡ true → (long ≡ short) × (short < count))

@@ -1,9 +1,11 @@
 ghost use Rattle.std.specs.Prelude.{◌≡◌, ◌↔◌, ◌+◌, ◌≤◌, ◌<◌, ◌^◌, true, false};
-ghost use Rattle.std.specs.Prelude.{length, IfOk, IfSome, IsErrOf, IsOk, IsTrue, Ok};
+ghost use Rattle.std.specs.Prelude.{length, IfOk, IfSome, IsErrOf, IsOk, IsTrue, MatchResult, Ok};
 ghost use Rattle.sha2.specs.Sha256.{sha256};
 ghost use Rattle.deny_base_disk.specs.Count.{RoseBy};
 ghost use Rattle.deny_base_disk.specs.Disk.{Disk, IsLater, FailedAt, bytes_at};
+ghost use Rattle.deny_base_disk.specs.Read.{GaveOnce};
 ghost use Rattle.deny_base_disk.specs.declared.disk.Call.TheVariants.{Read};
+ghost use Rattle.deny_build_file.specs.CheckEnd.{failed_calls};
 ghost use Rattle.deny_build_file.specs.private.Hashing.{IsHashing, HasHashed};
 
 use crate::check_end::CheckEnd;
@@ -18,9 +20,10 @@ const LIMIT: u64 = 0x100_0000_0000;
 /// How many bytes are read at a time.
 const PIECE: usize = 0x1_0000;
 
-/// The SHA-256 of the bytes of the file at `path`, which are read piece by piece. `Fault` is
+/// The SHA-256 of the bytes of the file at `path`, which are read once, piece by piece. `Fault` is
 /// answered only where a read of this path failed, `Long` only where the file has 2^40 bytes or
-/// more; such a file never has a checksum. The time grows with the file alone.
+/// more; such a file never has a checksum. No read failed but the one that is answered as `Fault`.
+/// The time grows with the file alone.
 pub fn sha256_of_file<D: PackageFiles>(
     alloc: Global,
     disk: &mut D,
@@ -30,8 +33,12 @@ pub fn sha256_of_file<D: PackageFiles>(
         (λ files. sum ≡ sha256 (bytes_at files path.now))) }
     ensures short { IfOk result (λ _. IfSome (D.seen disk.old).files
         (λ files. length (bytes_at files path.now) < 2 ^ 40)) }
+    ensures once { GaveOnce (D.seen disk.old) (D.seen disk.new) path.now }
     ensures later { IsLater (D.seen disk.old) (D.seen disk.new) }
     ensures fault { IsErrOf result CheckEnd.Fault → FailedAt (D.seen disk.old) (D.seen disk.new) Read path.now }
+    ensures faults { MatchResult result
+        (λ _. (D.seen disk.new).faults ≡ (D.seen disk.old).faults)
+        (λ end. (D.seen disk.new).faults ≤ (D.seen disk.old).faults + failed_calls end) }
     ensures long_by_count { IsErrOf result CheckEnd.Long →
         RoseBy (2 ^ 40) (D.seen disk.old).given (D.seen disk.new).given }
     ensures long_by_text { IsErrOf result CheckEnd.Long → IfSome (D.seen disk.old).files
@@ -60,8 +67,12 @@ pub fn checksum_file<D: PackageFiles>(
         (λ files. checksum.0 ≡ sha256 (bytes_at files path.now))) }
     ensures short { IfOk result (λ _. IfSome (D.seen disk.old).files
         (λ files. length (bytes_at files path.now) < 2 ^ 40)) }
+    ensures once { GaveOnce (D.seen disk.old) (D.seen disk.new) path.now }
     ensures later { IsLater (D.seen disk.old) (D.seen disk.new) }
     ensures fault { IsErrOf result CheckEnd.Fault → FailedAt (D.seen disk.old) (D.seen disk.new) Read path.now }
+    ensures faults { MatchResult result
+        (λ _. (D.seen disk.new).faults ≡ (D.seen disk.old).faults)
+        (λ end. (D.seen disk.new).faults ≤ (D.seen disk.old).faults + failed_calls end) }
     ensures long_by_count { IsErrOf result CheckEnd.Long →
         RoseBy (2 ^ 40) (D.seen disk.old).given (D.seen disk.new).given }
     ensures long_by_text { IsErrOf result CheckEnd.Long → IfSome (D.seen disk.old).files
@@ -84,8 +95,12 @@ pub fn validate_checksum<D: PackageFiles>(
         (λ files. answer.1.0 ≡ sha256 (bytes_at files path.now))) }
     ensures short { IfOk result (λ _. IfSome (D.seen disk.old).files
         (λ files. length (bytes_at files path.now) < 2 ^ 40)) }
+    ensures once { GaveOnce (D.seen disk.old) (D.seen disk.new) path.now }
     ensures later { IsLater (D.seen disk.old) (D.seen disk.new) }
     ensures fault { IsErrOf result CheckEnd.Fault → FailedAt (D.seen disk.old) (D.seen disk.new) Read path.now }
+    ensures faults { MatchResult result
+        (λ _. (D.seen disk.new).faults ≡ (D.seen disk.old).faults)
+        (λ end. (D.seen disk.new).faults ≤ (D.seen disk.old).faults + failed_calls end) }
     ensures long_by_count { IsErrOf result CheckEnd.Long →
         RoseBy (2 ^ 40) (D.seen disk.old).given (D.seen disk.new).given }
     ensures long_by_text { IsErrOf result CheckEnd.Long → IfSome (D.seen disk.old).files
@@ -127,8 +142,13 @@ fn read_part<D: PackageFiles>(
     ensures last { result ≡ Ok false → count.new ≡ count.old }
     ensures ended { (start : Disk) → IsHashing start (D.seen disk.old) path.now hasher.old count.old
         → result ≡ Ok false → HasHashed start path.now hasher.new count.new }
+    ensures once { (start : Disk) → IsHashing start (D.seen disk.old) path.now hasher.old count.old
+        → GaveOnce start (D.seen disk.new) path.now }
     ensures later { IsLater (D.seen disk.old) (D.seen disk.new) }
     ensures fault { IsErrOf result CheckEnd.Fault → FailedAt (D.seen disk.old) (D.seen disk.new) Read path.now }
+    ensures faults { MatchResult result
+        (λ _. (D.seen disk.new).faults ≡ (D.seen disk.old).faults)
+        (λ end. (D.seen disk.new).faults ≤ (D.seen disk.old).faults + failed_calls end) }
     ensures never_long { IsErrOf result CheckEnd.Long → ⊥ }
 {
     let n = disk.read_at(path, *count, piece)?;

@@ -1,6 +1,8 @@
-ghost use Rattle.std.specs.Prelude.{◌≡◌, ◌+◌, ◌≤◌, IfOk, IfSome, IsErrOf};
+ghost use Rattle.std.specs.Prelude.{◌≡◌, ◌+◌, ◌≤◌, IfOk, IfSome, IsErrOf, MatchResult};
 ghost use Rattle.deny_base_disk.specs.Disk.{IsLater, FailedAt, bytes_at};
+ghost use Rattle.deny_base_disk.specs.Read.{GaveOnce};
 ghost use Rattle.deny_base_disk.specs.declared.disk.Call.TheVariants.{Read};
+ghost use Rattle.deny_build_file.specs.CheckEnd.{failed_calls};
 ghost use Rattle.deny_build_file.specs.Header.{executable_in, native_kind, is_mach};
 
 use crate::check_end::CheckEnd;
@@ -12,8 +14,9 @@ use deny_spec::{ExecutableKind, NativeKind};
 use std::alloc::Global;
 
 /// The kind of executable that the file at `path` is by its first bytes, or none; an archive is
-/// none where `exclude_archives` is set. At most 256 bytes are read, and by one call where that
-/// gives enough. `Fault` is answered only where a read of this path failed, and `Long` never.
+/// none where `exclude_archives` is set. At most 256 bytes are read, each once, and by one call
+/// where that gives enough. `Fault` is answered only where a read of this path failed, and `Long`
+/// never. No read failed but the one that is answered as `Fault`.
 pub fn check_is_executable<D: PackageFiles>(
     alloc: Global,
     disk: &mut D,
@@ -22,9 +25,13 @@ pub fn check_is_executable<D: PackageFiles>(
 ) -> Result<Option<ExecutableKind>, CheckEnd>
     ensures kind { IfOk result (λ kind. IfSome (D.seen disk.old).files
         (λ files. kind ≡ executable_in exclude_archives path.now (bytes_at files path.now))) }
-    ensures few { IfOk result (λ _. (D.seen disk.new).given ≤ (D.seen disk.old).given + 256) }
+    ensures few { (D.seen disk.new).given ≤ (D.seen disk.old).given + 256 }
+    ensures once { GaveOnce (D.seen disk.old) (D.seen disk.new) path.now }
     ensures later { IsLater (D.seen disk.old) (D.seen disk.new) }
     ensures fault { IsErrOf result CheckEnd.Fault → FailedAt (D.seen disk.old) (D.seen disk.new) Read path.now }
+    ensures faults { MatchResult result
+        (λ _. (D.seen disk.new).faults ≡ (D.seen disk.old).faults)
+        (λ end. (D.seen disk.new).faults ≤ (D.seen disk.old).faults + failed_calls end) }
     ensures never_long { IsErrOf result CheckEnd.Long → ⊥ }
 {
     let mut buffer = [0u8; 256];

@@ -1,10 +1,12 @@
 //! The prefix of a file that determines whether it is executable.
-ghost use Rattle.std.specs.Prelude.{◌≡◌, ◌+◌, ◌≤◌, ◌<◌, false, length, take, IfOk, IfSome, IsErrOf, Ok};
+ghost use Rattle.std.specs.Prelude.{◌≡◌, ◌+◌, ◌≤◌, ◌<◌, false, length, take, IfOk, IfSome, IsErrOf};
+ghost use Rattle.std.specs.Prelude.{MatchResult, Ok};
 ghost use Rattle.std.specs.List.{list_any};
 ghost use Rattle.deny_build_file.specs.Script.{is_newline};
 ghost use Rattle.deny_base_disk.specs.Disk.{Disk, IsLater, FailedAt, bytes_at};
-ghost use Rattle.deny_base_disk.specs.Read.{IsReading, IsWhole};
+ghost use Rattle.deny_base_disk.specs.Read.{GaveOnce, IsReading, IsWhole};
 ghost use Rattle.deny_base_disk.specs.declared.disk.Call.TheVariants.{Read};
+ghost use Rattle.deny_build_file.specs.CheckEnd.{failed_calls};
 ghost use Rattle.deny_build_file.specs.private.Prefix.{IsDecisivePrefix, is_enough, is_open_script};
 
 use crate::check_end::CheckEnd;
@@ -21,9 +23,13 @@ pub fn prefix_of<D: PackageFiles>(
     ensures prefix { IfOk result (λ n. IfSome (D.seen disk.old).files
         (λ files. IsDecisivePrefix (take n buffer.new) (bytes_at files path.now))) }
     ensures within { IfOk result (λ n. n ≤ 256) }
-    ensures few { IfOk result (λ _. (D.seen disk.new).given ≤ (D.seen disk.old).given + 256) }
+    ensures few { (D.seen disk.new).given ≤ (D.seen disk.old).given + 256 }
+    ensures once { GaveOnce (D.seen disk.old) (D.seen disk.new) path.now }
     ensures later { IsLater (D.seen disk.old) (D.seen disk.new) }
     ensures fault { IsErrOf result CheckEnd.Fault → FailedAt (D.seen disk.old) (D.seen disk.new) Read path.now }
+    ensures faults { MatchResult result
+        (λ _. (D.seen disk.new).faults ≡ (D.seen disk.old).faults)
+        (λ end. (D.seen disk.new).faults ≤ (D.seen disk.old).faults + failed_calls end) }
     ensures never_long { IsErrOf result CheckEnd.Long → ⊥ }
 {
     let mut read = 0;
@@ -48,12 +54,17 @@ fn read_piece<D: PackageFiles>(
     requires room { read < length buffer.old }
     ensures reading { (start : Disk) → IsReading start (D.seen disk.old) path.now (take read buffer.old)
         → IfOk result (λ n. IsReading start (D.seen disk.new) path.now (take (read + n) buffer.new)) }
-    ensures given { IfOk result (λ n. (D.seen disk.new).given ≤ (D.seen disk.old).given + n) }
+    ensures given { MatchResult result
+        (λ n. (D.seen disk.new).given ≤ (D.seen disk.old).given + n)
+        (λ _. (D.seen disk.new).given ≡ (D.seen disk.old).given) }
     ensures fits { IfOk result (λ n. read + n ≤ length buffer.new) }
     ensures ended { (start : Disk) → IsReading start (D.seen disk.old) path.now (take read buffer.old)
         → result ≡ Ok 0 → IsWhole start path.now (take read buffer.new) }
     ensures later { IsLater (D.seen disk.old) (D.seen disk.new) }
     ensures fault { IsErrOf result CheckEnd.Fault → FailedAt (D.seen disk.old) (D.seen disk.new) Read path.now }
+    ensures faults { MatchResult result
+        (λ _. (D.seen disk.new).faults ≡ (D.seen disk.old).faults)
+        (λ end. (D.seen disk.new).faults ≤ (D.seen disk.old).faults + failed_calls end) }
     ensures never_long { IsErrOf result CheckEnd.Long → ⊥ }
 {
     Ok(disk.read_at(path, read as u64, &mut buffer[read..])?)

@@ -31,6 +31,7 @@ use Rattle.deny_base_unread.specs.View.{unless, view_by, view_of}
 use Rattle.deny_base.specs.declared.purpose.Purpose.{Purpose}
 use Rattle.deny_base.specs.declared.purpose.Purpose.TheVariants as purpose
 use Rattle.deny_base.specs.declared.unread.Unread.{Unread}
+use Rattle.deny_build_walk.specs.Entries.{HasFewEntries, IsPastBound}
 use Rattle.deny_build_walk.specs.Walk.{IsFile, IsFolder}
 
 -- two tests agree on what was not read of a package
@@ -51,7 +52,7 @@ module _ (why weak : Why) (weaker : (u : Unread) (failure : Failure) → why u f
     (told : Option Files) (c : Crate) where
   pub sum_weaker : (p : Purpose) (path : List ℕ) (a b : Bool) → a ≡ b → (found : Found)
       → IsSumSeen (of_crate why c p path) told path a found → IsSumSeen (of_crate weak c p path) told path b found
-  sum_weaker p path a b same _ (taken read sum is) = taken (sym same ∙ read) sum is
+  sum_weaker p path a b same _ (taken read sum is short) = taken (sym same ∙ read) sum is short
   sum_weaker p path a b same _ (failed gap failure because) =
       failed (sym same ∙ gap) failure (weaker (asked (Some (kid_of c)) p path) failure because)
 
@@ -86,25 +87,25 @@ module _ (why weak : Why) (weaker : (u : Unread) (failure : Failure) → why u f
           file.seen.found header sum is.found;
     }
 
-    folder_weaker : (path : List ℕ) (seen : Seen) → IsFolderUnseen why home c path seen
-        → IsFolderUnseen weak home c path seen
-    folder_weaker path seen is = record {
+    lists_same : (P : Files → (List ℕ → Option (List Entry)) → Type 0) (told : Option Files) (one other : Gaps)
+        → ((path : List ℕ) → one purpose.List path ≡ other purpose.List path)
+        → IfSome told (λ files. P files (view_by files one).list)
+        → IfSome told (λ files. P files (view_by files other).list)
+    lists_same P None one other same is = tt
+    lists_same P (Some files) one other same is =
+        subst (λ (list : List ℕ → Option (List Entry)). P files list) (same_lists files one other same) is
+
+    folder_weaker : (one other : Gaps) → ((path : List ℕ) → one purpose.List path ≡ other purpose.List path)
+        → (path : List ℕ) (seen : Seen) → IsFolderUnseen why told home one c path seen
+        → IsFolderUnseen weak told home other c path seen
+    folder_weaker one other same path seen is = record {
       shown = is.shown;
       failure = is.failure;
       found = is.found;
       because = weaker (asked (Some (kid_of c)) purpose.List path) is.failure is.because;
+      past = λ crowds. lists_same (λ files list. IsPastBound (is_git_source c) (folder c) list files path) told one
+          other same (is.past crowds);
     }
-
-    all_same : (told : Option Files) (one other : Gaps) (paths : List (List ℕ))
-        → ((path : List ℕ) → one purpose.List path ≡ other purpose.List path)
-        → IfSome told (λ files. (path : List ℕ) → Contains paths path
-        ↔ IsFile (is_git_source c) (folder c) (view_by files one).list path)
-        → IfSome told (λ files. (path : List ℕ) → Contains paths path
-        ↔ IsFile (is_git_source c) (folder c) (view_by files other).list path)
-    all_same None one other paths same all = tt
-    all_same (Some files) one other paths same all =
-        subst (λ (list : List ℕ → Option (List Entry)). (path : List ℕ) → Contains paths path
-        ↔ IsFile (is_git_source c) (folder c) list path) (same_lists files one other same) all
 
     pub walk_weaker : (one other : Gaps) (contents : Package)
         → ((path : List ℕ) → one purpose.List path ≡ other purpose.List path)
@@ -118,13 +119,17 @@ module _ (why weak : Why) (weaker : (u : Unread) (failure : Failure) → why u f
         whole = λ path gap. is.missing.whole path (list path ∙ gap);
         sound = λ path there. sym (list path) ∙ is.missing.sound path there;
       };
-      unlisted = zip_weaker (IsFolderUnseen why home c) (IsFolderUnseen weak home c) is.folders contents.unlisted
-          folder_weaker is.unlisted;
+      unlisted = zip_weaker (IsFolderUnseen why told home one c) (IsFolderUnseen weak told home other c) is.folders
+          contents.unlisted (folder_weaker one other list) is.unlisted;
       paths = is.paths;
       ordered = is.ordered;
-      all = all_same told one other is.paths list is.all;
+      all = lists_same (λ files lists. (path : List ℕ) → Contains is.paths path
+          ↔ IsFile (is_git_source c) (folder c) lists path) told one other list is.all;
       files = zip_weaker (IsFileSeen why told b home one c) (IsFileSeen weak told b home other c) is.paths
           contents.files (λ path file. file_weaker one other path file (header path) (sum path)) is.files;
+      most = is.most;
+      few = lists_same (λ files lists. HasFewEntries (is_git_source c) (folder c) lists files) told one other list
+          is.few;
     }
 
     script_weaker : (one other : Gaps) (target : Option Target) (seen : Option Seen) → AreSameGaps one other

@@ -1,4 +1,5 @@
 pub mod Among
+pub mod CallLemmas
 pub mod Checks
 pub mod DecideLemmas
 pub mod FilesLemmas

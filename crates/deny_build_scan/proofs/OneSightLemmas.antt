@@ -125,10 +125,10 @@ module _ (why why_too : Failure → Type 0) (files : Files) (path : List ℕ) (g
 
   splits_sum : (x y : Found) → IsSumSeen why (Some files) path gap x → IsSumSeen why_too (Some files) path gap y
       → Splits failures_of x y
-  splits_sum _ _ (taken read sum is) (taken read_too sum_too is_too) =
+  splits_sum _ _ (taken read sum is short) (taken read_too sum_too is_too short_too) =
       splits_none failures_of (Sum sum) (Sum sum_too) refl refl (ap (λ s. Sum s) (is ∙ sym is_too))
-  splits_sum _ _ (taken read sum is) (failed gone failure because) = gap_apart read gone
-  splits_sum _ _ (failed gone failure because) (taken read sum is) = gap_apart read gone
+  splits_sum _ _ (taken read sum is short) (failed gone failure because) = gap_apart read gone
+  splits_sum _ _ (failed gone failure because) (taken read sum is short) = gap_apart read gone
   splits_sum _ _ (failed gone failure because) (failed gone_too failure_too because_too) = λ a b e. (cc e, cc e)
 
   splits_kind : (no_archives : Bool) (x y : Found) → IsKindSeen why (Some files) no_archives path gap x
@@ -197,8 +197,8 @@ module _ (why why_too : Why) (files : Files) (b : Building) (home : Option (List
         split.1,
       )
 
-  splits_folder : (path : List ℕ) (x y : Seen) → IsFolderUnseen why home c path x
-      → IsFolderUnseen why_too home c path y → Splits seen_fails x y
+  splits_folder : (path : List ℕ) (x y : Seen) → IsFolderUnseen why (Some files) home unread c path x
+      → IsFolderUnseen why_too (Some files) home unread c path y → Splits seen_fails x y
   splits_folder path x y one two = λ a d e.
       let failures : one.failure ∷ a ≡ two.failure ∷ d =
       ap (λ (f : Found). failures_of f ++ a) (sym one.found) ∙ e ∙ ap (λ (f : Found). failures_of f ++ d) two.found in
@@ -251,9 +251,9 @@ module _ (why why_too : Why) (files : Files) (b : Building) (home : Option (List
 
     unlisted_split : Splits (flat_map seen_fails) p.unlisted q.unlisted
     unlisted_split = splits_list seen_fails p.unlisted q.unlisted
-        (zip_both (IsFolderUnseen why home c) (IsFolderUnseen why_too home c) (Splits seen_fails) one.folders
+        (zip_both (IsFolderUnseen why (Some files) home unread c) (IsFolderUnseen why_too (Some files) home unread c) (Splits seen_fails) one.folders
         p.unlisted q.unlisted (λ path x y there. splits_folder path x y) one.unlisted
-        (subst (λ (fs : List (List ℕ)). AllZip (IsFolderUnseen why_too home c) fs q.unlisted) (sym same_folders)
+        (subst (λ (fs : List (List ℕ)). AllZip (IsFolderUnseen why_too (Some files) home unread c) fs q.unlisted) (sym same_folders)
         two.unlisted))
 
     files_split : Splits (flat_map file_fails) p.files q.files

@@ -1,6 +1,9 @@
 -- What reading one file gives, and its entry where it fails.
 use Rattle.std.proofs.Common.{◌≡◌, ◌∙◌, ◌∷◌, ◌++◌, ◌≤◌, ◌^◌, [], ℕ, Bool, Err, IfOk, List, Ok, OnOk, Option}
-use Rattle.std.proofs.Common.{Result, ap, length, refl, subst, sym, true}
+use Rattle.std.proofs.Common.{Result, ap, arith, length, refl, subst, sym, true, ◌+◌}
+use Rattle.deny_build_file.specs.CheckEnd as ends
+use Rattle.deny_build_file.specs.declared.check_end.CheckEnd.{CheckEnd}
+use Rattle.deny_build_scan.specs.Failures.{calls_of, failed_calls}
 use Rattle.std.specs.Prelude.{IfSome}
 use Rattle.deny_base.specs.declared.span.Kid.{Kid}
 use Rattle.deny_spec.specs.declared.package.Failure.{Failure}
@@ -34,6 +37,14 @@ pub failure_noted : (u : Unread) (us vs : List Unread) (failure : Failure) (resu
     → IfOk result (λ found. vs ≡ us ++ noted u found)
 failure_noted u us vs failure (Ok found) is behind = behind ∙ ap (λ (f : Found). us ++ noted u f) (sym is)
 failure_noted u us vs failure (Err end) is behind = tt
+
+-- the calls that failed where a check of a file ended as a failure
+pub failure_counted : (before now : ℕ) (end : CheckEnd) (failure : Failure) (result : Result Found NoMemory)
+    → ends.failed_calls end ≡ failed_calls failure → now ≤ before + ends.failed_calls end
+    → IfOk result (λ found. found ≡ Failed failure) → IfOk result (λ found. now ≤ before + calls_of found)
+failure_counted before now end failure (Ok found) same most is =
+    subst (λ (f : Found). now ≤ before + calls_of f) (sym is) (omega (arith, same, most))
+failure_counted before now end failure (Err error) same most is = tt
 
 module _ (folder : Folders) (old new : Disk) (krate : Option Kid) (path : List ℕ) where
   because_unreadable : (p : Purpose) → IsSummed p → FailedAt old new Read path

@@ -1,6 +1,6 @@
 -- What is seen of a package that is walked.
-use Rattle.std.proofs.Common.{◌≡◌, ◌∙◌, ◌++◌, ◌∷◌, [], ℕ, List, Option, None, Some, true, ap, inl, inr, map, nat_cmp}
-use Rattle.std.proofs.Common.{refl, subst, sym}
+use Rattle.std.proofs.Common.{◌≡◌, ◌∙◌, ◌++◌, ◌∷◌, ◌^◌, ◌≤◌, [], ℕ, Bool, List, Option, None, Some, true, ap, arith, inl, inr, map}
+use Rattle.std.proofs.Common.{length, nat_cmp, refl, subst, sym}
 use Rattle.std.specs.Prelude.{◌↔◌, Contains, IfSome}
 use Rattle.std.specs.Cmp.Lexicographic.{slice_cmp}
 use Rattle.std.specs.List.{AllZip}
@@ -13,22 +13,25 @@ use Rattle.deny_spec.specs.Paths.{path_cmp}
 use Rattle.deny_spec.specs.declared.package.Package.{Package}
 use Rattle.deny_spec.specs.declared.package.PackageFile.{PackageFile}
 use Rattle.deny_spec.specs.declared.package.Seen.{Seen}
+use Rattle.deny_spec.specs.declared.package.Failure.TheVariants as failures
 use Rattle.deny_spec_report.specs.BuildScripts.{used}
 use Rattle.deny_spec_report.specs.PackageFiles.{ByExtension, ByGlob, ByHeader, ByPath, BySum, Step, is_decided_by}
 use Rattle.deny_spec_report.specs.PackageFiles.{step_of}
 use Rattle.deny_base_lists.proofs.Members.{Contains-first, Contains-from_map, Contains-rest, contains_map}
+use Rattle.deny_base_lists.proofs.Sorted.{length-ascending}
 use Rattle.deny_base_lists.specs.Ascending.{Lists}
 use Rattle.deny_spec.specs.Crates as crates
 use Rattle.deny_spec.specs.Crates.{is_git_source}
 use Rattle.deny_spec.specs.Graph.{Crate, kid_of}
+use Rattle.deny_base_disk.specs.Children.{child}
 use Rattle.deny_base_disk.specs.Disk.{Disk, Files, IsLater}
 use Rattle.deny_base_disk.specs.declared.disk.Call.TheVariants as call
 use Rattle.deny_base_disk.specs.declared.disk.Entry.{Entry}
 use Rattle.deny_build_scan.proofs.Among.{file_weaker, same_lists}
 use Rattle.deny_build_scan.proofs.FilesLemmas.{IsEntryOf, IsOfFile, because_wider, entry_among, gaps_each}
 use Rattle.deny_build_scan.proofs.FilesLemmas.IsEntryOf.{header_of, sum_of}
+use Rattle.deny_build_scan.proofs.OrderLemmas.{path_total}
 use Rattle.deny_build_scan.proofs.Zips.{zip_weaker}
-use Rattle.deny_build_scan.specs.Paths.{below}
 use Rattle.deny_build_scan.specs.Seen.{IsFileSeen, IsFolderUnseen, IsWalkSeen}
 use Rattle.deny_build_scan.specs.Why.{IsBecause}
 use Rattle.deny_build_scan.specs.Why.CanFail.{listing, long_listing}
@@ -49,7 +52,8 @@ use Rattle.deny_base.specs.declared.purpose.Purpose.{Purpose}
 use Rattle.deny_base.specs.declared.purpose.Purpose.TheVariants as purpose
 use Rattle.deny_base.specs.declared.unread.Unread.{Unread}
 use Rattle.deny_build_walk.specs.Cause.{CauseOf, HasCause}
-use Rattle.deny_build_walk.specs.Walk.{IsFile}
+use Rattle.deny_build_walk.specs.Entries.{AreListedOnce, HasFewEntries, IsPastBound}
+use Rattle.deny_build_walk.specs.Walk.{IsFile, Listing}
 use Rattle.deny_build_walk.specs.declared.folder.NoList.{NoList}
 use Rattle.deny_build_walk.specs.declared.folder.NoList.TheVariants.{Crowded, Failed}
 use Rattle.deny_build_walk.specs.declared.walk.Unlisted.{Unlisted}
@@ -69,6 +73,13 @@ sum_step ByGlob is = absurd (cc is)
 sum_step (BySum sum) is = (sum, refl)
 sum_step ByExtension is = absurd (cc is)
 sum_step ByHeader is = absurd (cc is)
+
+-- folders that were each listed once have few entries
+pub few_once : (told : Option Files) (by_git : Bool) (root : List ℕ) (list : Files → Listing) (old new : Disk)
+    (unlisted : List (List ℕ)) → IfSome told (λ files. AreListedOnce by_git root (list files) files old new unlisted)
+    → IfSome told (λ files. HasFewEntries by_git root (list files) files)
+few_once None by_git root list old new unlisted is = tt
+few_once (Some files) by_git root list old new unlisted is = is.within
 
 -- ---- a walk, and its files after the folders
 
@@ -115,11 +126,12 @@ module _ (b : Building) (home : Option (List ℕ)) (c : Crate) (start mid end : 
   list_same : (path : List ℕ) → is_unread own kid purpose.List path ≡ is_unread first kid purpose.List path
   list_same path = unread_behind first (entries_of_all b c paths files) kid purpose.List path not_listing
 
-  pub lists_own : (P : (List ℕ → Option (List Entry)) → Type 0) (told : Option Files)
-      → IfSome told (λ fs. P (view_of fs first kid).list) → IfSome told (λ fs. P (view_by fs (is_unread own kid)).list)
+  pub lists_own : (P : Files → (List ℕ → Option (List Entry)) → Type 0) (told : Option Files)
+      → IfSome told (λ fs. P fs (view_of fs first kid).list)
+      → IfSome told (λ fs. P fs (view_by fs (is_unread own kid)).list)
   unfolding view_of
   lists_own P None is = tt
-  lists_own P (Some fs) is = subst (λ (list : List ℕ → Option (List Entry)). P list)
+  lists_own P (Some fs) is = subst (λ (list : List ℕ → Option (List Entry)). P fs list)
       (same_lists fs (is_unread first kid) (is_unread own kid) (λ path. sym (list_same path))) is
 
   -- ---- folders
@@ -151,20 +163,41 @@ module _ (b : Building) (home : Option (List ℕ)) (c : Crate) (start mid end : 
       cause = bound_wider folder start start mid end (asked kid purpose.List path) (later_same start) after cause;
     }
 
+    -- a folder is crowded by the lists of all
+    abbrev IsPast : List ℕ → Type 0
+    IsPast path = IfSome start.files (λ fs.
+        IsPastBound (is_git_source c) (crates.folder c) (view_by fs (is_unread own kid)).list fs path)
+
+    past_of : (why : NoList) (path : List ℕ) → (why ≡ Crowded → IsPast path) → failure_of why ≡ failures.Crowded
+        → IsPast path
+    past_of Failed path past is = absurd (cc is)
+    past_of Crowded path past is = past refl
+
     unseen_each : (notes : List Unlisted)
         → ((n : Unlisted) → Contains notes n → HasCause folder start mid (kid_of c) n)
-        → AllZip (IsFolderUnseen (IsBecause folder start end) home c) (map (λ (n : Unlisted). n.path) notes)
-        (map (folder_unseen (crates.folder c) home) notes)
-    unseen_each [] causes = tt
-    unseen_each (n ∷ notes) causes = (
+        → ((n : Unlisted) → Contains notes n → n.why ≡ Crowded → IsPast n.path)
+        → AllZip (IsFolderUnseen (IsBecause folder start end) start.files home (is_unread own kid) c)
+        (map (λ (n : Unlisted). n.path) notes) (map (folder_unseen (crates.folder c) home) notes)
+    unseen_each [] causes past = tt
+    unseen_each (n ∷ notes) causes past = (
       record {
         shown = refl;
         failure = failure_of n.why;
         found = refl;
         because = because_folder n.why n.path (causes n (Contains-first n notes));
+        past = past_of n.why n.path (past n (Contains-first n notes));
       },
-      unseen_each notes (λ m there. causes m (Contains-rest n notes m there)),
+      unseen_each notes (λ m there. causes m (Contains-rest n notes m there))
+          (λ m there. past m (Contains-rest n notes m there)),
     )
+
+    -- of one folder
+    past_one : (notes : List Unlisted) (told : Option Files) (n : Unlisted) → Contains notes n → n.why ≡ Crowded
+        → IfSome told (λ fs. (m : Unlisted) → Contains notes m → m.why ≡ Crowded
+        → IsPastBound (is_git_source c) (crates.folder c) (view_of fs first kid).list fs m.path)
+        → IfSome told (λ fs. IsPastBound (is_git_source c) (crates.folder c) (view_of fs first kid).list fs n.path)
+    past_one notes None n there crowds past = tt
+    past_one notes (Some fs) n there crowds past = past n there crowds
 
     -- ---- files
 
@@ -184,6 +217,10 @@ module _ (b : Building) (home : Option (List ℕ)) (c : Crate) (start mid end : 
         → IsStrictlySortedBy (slice_cmp nat_cmp) (map (λ (u : Unread). u.path) first)
         → map (λ (n : Unlisted). n.path) notes ≡ map (λ (u : Unread). u.path) first
         → ((n : Unlisted) → Contains notes n → HasCause folder start mid (kid_of c) n)
+        → IfSome start.files (λ fs. (n : Unlisted) → Contains notes n → n.why ≡ Crowded
+        → IsPastBound (is_git_source c) (crates.folder c) (view_of fs first kid).list fs n.path)
+        → length listed ≤ 2 ^ 24
+        → IfSome start.files (λ fs. HasFewEntries (is_git_source c) (crates.folder c) (view_of fs first kid).list fs)
         → IfSome start.files (λ fs. Lists (slice_cmp nat_cmp) (IsFile (is_git_source c) (crates.folder c)
         (view_of fs first kid).list) listed)
         → Lists path_cmp (Contains listed) paths
@@ -191,14 +228,17 @@ module _ (b : Building) (home : Option (List ℕ)) (c : Crate) (start mid end : 
         paths files
         → IsWalkSeen (IsBecause folder start end) start.files b home (is_unread own kid) c
         (record { script = script; unlisted = map (folder_unseen (crates.folder c) home) notes; files = files })
-    walk_seen script listed notes up same causes all order seen = record {
+    walk_seen script listed notes up same causes past most few all order seen = record {
       folders = map (λ (u : Unread). u.path) first;
       missing = missing_own up;
-      unlisted = subst (λ (ps : List (List ℕ)). AllZip (IsFolderUnseen (IsBecause folder start end) home c) ps
-          (map (folder_unseen (crates.folder c) home) notes)) same (unseen_each notes causes);
+      unlisted = subst (λ (ps : List (List ℕ)). AllZip (IsFolderUnseen (IsBecause folder start end) start.files home
+          (is_unread own kid) c) ps (map (folder_unseen (crates.folder c) home) notes)) same
+          (unseen_each notes causes (λ n there crowds.
+          lists_own (λ fs list. IsPastBound (is_git_source c) (crates.folder c) list fs n.path) start.files
+          (past_one notes start.files n there crowds past)));
       paths = paths;
       ordered = order.ascending;
-      all = lists_own (λ list. (path : List ℕ) → Contains paths path
+      all = lists_own (λ fs list. (path : List ℕ) → Contains paths path
           ↔ IsFile (is_git_source c) (crates.folder c) list path) start.files (told_all start.files listed all order);
       files = gaps_each b c (IsBecause folder start end) start.files home own paths files order.ascending
           (λ path p there of_file. says_by p path (file_apart p of_file))
@@ -210,6 +250,8 @@ module _ (b : Building) (home : Option (List ℕ)) (c : Crate) (start mid end : 
           (gaps_of file) path file refl refl
           (subst (λ (told : Option Files). IsFileSeen (IsBecause folder mid end) told b home (gaps_of file) c path file)
           before.files is)) seen);
+      most = omega (arith, most, length-ascending path_total paths listed order.ascending order.sound);
+      few = lists_own (λ fs list. HasFewEntries (is_git_source c) (crates.folder c) list fs) start.files few;
     }
       where
         file_apart : (p : Purpose) → IsOfFile b c p → p ≡ purpose.List → ⊥
@@ -222,7 +264,7 @@ module _ (b : Building) (home : Option (List ℕ)) (c : Crate) (start mid end : 
   -- ---- which entries are wanted
 
   pub of_files : (contents : Package) (told : Option Files) (path : List ℕ) (file : PackageFile) (u : Unread)
-      → Contains contents.files file → file.path ≡ below (crates.folder c) path
+      → Contains contents.files file → path ≡ child (crates.folder c) file.path
       → IfSome told (λ fs. IsFile (is_git_source c) (crates.folder c) (view_of fs own kid).list path)
       → IsEntryOf b c path file u → IsOfWalk told b own c contents u
   of_files contents told path file u member rest lies (header_of asks_header failed is) = of_header path

@@ -1,7 +1,11 @@
 -- The entries for a walked package are wanted.
-use Rattle.std.proofs.Common.{◌≡◌, ◌++◌, ◌∷◌, [], ℕ, List, Option, None, Some, inl, inr, subst, sym}
-use Rattle.std.specs.Prelude.{◌↔◌, Contains, IfSome}
-use Rattle.std.specs.List.{AllZip}
+use Rattle.std.proofs.Common.{◌≡◌, ◌∙◌, ◌++◌, ◌∷◌, [], ℕ, true, List, Option, None, Some, ap, cond, drop, inl, inr, length}
+use Rattle.std.proofs.Common.{refl, subst, sym}
+use Rattle.std.specs.Prelude.{◌↔◌, Contains, IfSome, nat_eq}
+use Rattle.std.specs.List.{AllZip, starts_with}
+use Rattle.std.specs.Option.{option_map_or}
+use Rattle.std.proofs.lemmas.Bool.Decides.{Decides-eqb}
+use Rattle.std.proofs.lemmas.Slice.Eq.{starts_is}
 use Rattle.std.proofs.lemmas.List.Elements.{Contains-append_cases}
 use Rattle.deny_spec.specs.Building.{Building}
 use Rattle.deny_spec.specs.declared.package.Package.{Package}
@@ -10,6 +14,7 @@ use Rattle.deny_base_lists.proofs.Members.{Contains-first, Contains-rest, no_mem
 use Rattle.deny_spec.specs.Crates as crates
 use Rattle.deny_spec.specs.Crates.{is_git_source}
 use Rattle.deny_spec.specs.Graph.{Crate, kid_of}
+use Rattle.deny_base_disk.specs.Children.{child, prefix_of, text_behind}
 use Rattle.deny_base_disk.specs.Disk.{Disk, Files, IsLater}
 use Rattle.deny_base_disk.specs.declared.disk.Entry.{Entry}
 use Rattle.deny_build_scan.proofs.FilesLemmas.{IsEntryOf, entry_of}
@@ -23,6 +28,17 @@ use Rattle.deny_base_unread.specs.View.{view_of}
 use Rattle.deny_base.specs.declared.purpose.Purpose.TheVariants as purpose
 use Rattle.deny_base.specs.declared.unread.Unread.{Unread}
 use Rattle.deny_build_walk.specs.Walk.{IsFile, IsFolder}
+
+-- a path below a folder is that of a child by its rest
+path_again : (root path rest : List ℕ) → rest ≡ below root path
+    → starts_with nat_eq path (prefix_of root) ≡ true → path ≡ child root rest
+unfolding below text_behind
+path_again root path rest is begins =
+    let prefix : List ℕ = prefix_of root in
+    let behind : List ℕ = drop (length prefix) path in
+    let whole : path ≡ prefix ++ behind = (starts_is Decides-eqb path prefix _ refl).0 begins in
+    whole ∙ ap (λ (r : List ℕ). prefix ++ r)
+    (sym (is ∙ (λ i. option_map_or (λ r. r) (cond (begins i) (Some behind) None) path)))
 
 -- a path and a file at one index, so related
 record IsPaired (b : Building) (c : Crate) (R : List ℕ → PackageFile → Type 0) (paths : List (List ℕ))
@@ -68,9 +84,9 @@ module _ (b : Building) (home : Option (List ℕ)) (c : Crate) (start mid end : 
   abbrev own : List Unread
   own = first ++ entries_of_all b c paths files
 
-  own_lists : (P : (List ℕ → Option (List Entry)) → Type 0) (told : Option Files)
-      → IfSome told (λ fs. P (view_of fs first (Some (kid_of c))).list)
-      → IfSome told (λ fs. P (view_of fs own (Some (kid_of c))).list)
+  own_lists : (P : Files → (List ℕ → Option (List Entry)) → Type 0) (told : Option Files)
+      → IfSome told (λ fs. P fs (view_of fs first (Some (kid_of c))).list)
+      → IfSome told (λ fs. P fs (view_of fs own (Some (kid_of c))).list)
   unfolding view_of
   own_lists P told is = lists_own b home c start mid end before after first lists paths files P told is
 
@@ -91,22 +107,24 @@ module _ (b : Building) (home : Option (List ℕ)) (c : Crate) (start mid end : 
 
   pub walk_wanted : (contents : Package) → contents.files ≡ files
       → AllZip (λ path file. file.path ≡ below (crates.folder c) path) paths files
+      → ((path : List ℕ) → Contains paths path → starts_with nat_eq path (prefix_of (crates.folder c)) ≡ true)
       → IfSome start.files (λ fs. (v : Unread) → Contains first v → IsFolder (is_git_source c) (crates.folder c)
       (view_of fs first (Some (kid_of c))).list v.path)
       → IfSome start.files (λ fs. (p : List ℕ) → Contains paths p
       ↔ IsFile (is_git_source c) (crates.folder c) (view_of fs first (Some (kid_of c))).list p)
       → (u : Unread) → Contains own u → IsOfWalk start.files b own c contents u
-  walk_wanted contents are rests folders all u there =
+  walk_wanted contents are rests begins folders all u there =
       elim (Contains-append_cases first (entries_of_all b c paths files) u there) [
         | inl listing ↦ of_folder u.path
-            (own_lists (λ list. IsFolder (is_git_source c) (crates.folder c) list u.path) start.files
+            (own_lists (λ fs list. IsFolder (is_git_source c) (crates.folder c) list u.path) start.files
             (folder_lies start.files u listing folders))
             (lists u listing)
         | inr later ↦
             let one = paired b c (λ path file. file.path ≡ below (crates.folder c) path) paths files u rests later in
             of_files b home c start mid end before after first lists paths files contents start.files one.path
             one.file u
-            (subst (λ (fs : List PackageFile). Contains fs one.file) (sym are) one.member) one.pair
-            (own_lists (λ list. IsFile (is_git_source c) (crates.folder c) list one.path) start.files
+            (subst (λ (fs : List PackageFile). Contains fs one.file) (sym are) one.member)
+            (path_again (crates.folder c) one.path one.file.path one.pair (begins one.path one.listed))
+            (own_lists (λ fs list. IsFile (is_git_source c) (crates.folder c) list one.path) start.files
             (file_lies start.files one.path one.listed all)) one.entry
       ]

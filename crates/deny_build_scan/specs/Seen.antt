@@ -1,6 +1,6 @@
 -- What is seen of packages, on a disk that may tell its files, by a policy and by the entries for what was not read.
-use Rattle.std.specs.Prelude.{◌≡◌, ◌↔◌, ℕ, Bool, true, false, not, Contains, IfSome, IsTrue, List, [], Option, None}
-use Rattle.std.specs.Prelude.{Some, if◌then◌else◌}
+use Rattle.std.specs.Prelude.{◌≡◌, ◌↔◌, ℕ, ◌^◌, ◌<◌, ◌≤◌, Bool, true, false, not, Contains, IfSome, IsTrue, List, []}
+use Rattle.std.specs.Prelude.{Option, None, Some, if◌then◌else◌, length}
 use Rattle.std.specs.Cmp.Lexicographic.{slice_cmp}
 use Rattle.std.specs.List.{AllZip}
 use Rattle.std.specs.List.Sorted.{IsStrictlySortedBy}
@@ -13,11 +13,13 @@ use Rattle.deny_base_unread.specs.View.{view_by}
 use Rattle.deny_base.specs.declared.purpose.Purpose.{Purpose}
 use Rattle.deny_base.specs.declared.purpose.Purpose.TheVariants as purpose
 use Rattle.deny_base.specs.declared.unread.Unread.{Unread}
+use Rattle.deny_build_walk.specs.Entries.{HasFewEntries, IsPastBound}
 use Rattle.deny_build_walk.specs.Walk.{IsFile}
 use Rattle.deny_spec.specs.Building.{Building}
 use Rattle.deny_spec.specs.Paths.{path_cmp}
 use Rattle.deny_spec.specs.declared.package.ExecutableKind.{ExecutableKind}
 use Rattle.deny_spec.specs.declared.package.Failure.{Failure}
+use Rattle.deny_spec.specs.declared.package.Failure.TheVariants.{Crowded}
 use Rattle.deny_spec.specs.declared.package.Found.{Found}
 use Rattle.deny_spec.specs.declared.package.Found.TheVariants.{Failed, Kind, Sum, Unasked}
 use Rattle.deny_spec.specs.declared.package.Package.{Package}
@@ -40,9 +42,11 @@ Gaps = Purpose → List ℕ → Bool
 
 -- ---- files
 
--- the checksum of the file at a path was computed, or an entry says that the file was not read
+-- the checksum of the file at a path, which is shorter than 2 ^ 40 bytes, was computed, or an entry says that the file
+-- was not read
 pub data IsSumSeen (why : Failure → Type 0) (told : Option Files) (path : List ℕ) (unread : Bool) : Found → Type 0 where
   taken : unread ≡ false → (sum : List ℕ) → IfSome told (λ files. sum ≡ sha256 (bytes_at files path))
+      → IfSome told (λ files. length (bytes_at files path) < 2 ^ 40)
       → IsSumSeen why told path unread (Sum sum)
   failed : unread ≡ true → (failure : Failure) → why failure → IsSumSeen why told path unread (Failed failure)
 
@@ -82,26 +86,32 @@ pub record IsFileSeen (why : Why) (told : Option Files) (b : Building) (home : O
 
 -- ---- folders
 
--- what is seen of the folder of a crate at a path, which has no list
-pub record IsFolderUnseen (why : Why) (home : Option (List ℕ)) (c : Crate) (path : List ℕ) (seen : Seen)
-    : Type 0 where
+-- What is seen of the folder of a crate at a path, which has no list. Where its entries are too many, these are more
+-- than 2 ^ 24 with those of the folders that were listed before it.
+pub record IsFolderUnseen (why : Why) (told : Option Files) (home : Option (List ℕ)) (unread : Gaps) (c : Crate)
+    (path : List ℕ) (seen : Seen) : Type 0 where
   pub shown : seen.shown ≡ home_path path (folder c) home
   pub failure : Failure
   pub found : seen.found ≡ Failed failure
   pub because : of_crate why c purpose.List path failure
+  pub past : failure ≡ Crowded → IfSome told (λ files.
+      IsPastBound (is_git_source c) (folder c) (view_by files unread).list files path)
 
--- what is seen of a walked package: its folders without a list are those that have entries, and its files are those
--- of its folders, in the order of their components
+-- what is seen of a walked package: its folders without a list are those that have entries, its files are those of its
+-- folders, in the order of their components, and neither they nor the entries of the folders that have lists are more
+-- than 2 ^ 24
 pub record IsWalkSeen (why : Why) (told : Option Files) (b : Building) (home : Option (List ℕ)) (unread : Gaps)
     (c : Crate) (contents : Package) : Type 0 where
   pub folders : List (List ℕ)
   pub missing : Lists (slice_cmp nat_cmp) (λ path. IsTrue (unread purpose.List path)) folders
-  pub unlisted : AllZip (IsFolderUnseen why home c) folders contents.unlisted
+  pub unlisted : AllZip (IsFolderUnseen why told home unread c) folders contents.unlisted
   pub paths : List (List ℕ)
   pub ordered : IsStrictlySortedBy path_cmp paths
   pub all : IfSome told (λ files. (path : List ℕ) → Contains paths path
       ↔ IsFile (is_git_source c) (folder c) (view_by files unread).list path)
   pub files : AllZip (IsFileSeen why told b home unread c) paths contents.files
+  pub most : length paths ≤ 2 ^ 24
+  pub few : IfSome told (λ files. HasFewEntries (is_git_source c) (folder c) (view_by files unread).list files)
 
 pub record IsNotWalked (contents : Package) : Type 0 where
   pub unlisted : contents.unlisted ≡ []

@@ -9,8 +9,8 @@ use Rattle.deny_spec_report.specs.BuildScripts.{is_walked, used}
 use Rattle.deny_spec_report.specs.PackageFiles.{ByHeader, BySum, Step, is_decided_by, step_of}
 use Rattle.deny_spec.specs.Crates.{folder, is_git_source}
 use Rattle.deny_spec.specs.Graph.{Crate, Graph, Target, kid_of}
+use Rattle.deny_base_disk.specs.Children.{child}
 use Rattle.deny_base_disk.specs.Disk.{Files}
-use Rattle.deny_build_scan.specs.Paths.{below}
 use Rattle.deny_build_scan.specs.Seen.{script_asked}
 use Rattle.deny_base.specs.Unread.{asked}
 use Rattle.deny_base_unread.specs.View.{view_of}
@@ -18,12 +18,12 @@ use Rattle.deny_base.specs.declared.purpose.Purpose.TheVariants as purpose
 use Rattle.deny_base.specs.declared.unread.Unread.{Unread}
 use Rattle.deny_build_walk.specs.Walk.{IsFile, IsFolder}
 
--- a file of a walked package at this path, decided by this rule
+-- a file of a walked package as it was seen, at this path and decided by this rule
 pub record IsFileOf (told : Option Files) (b : Building) (unread : List Unread) (c : Crate) (contents : Package)
     (path : List ℕ) (step : Step) : Type 0 where
   pub file : PackageFile
   pub member : Contains contents.files file
-  pub rest : file.path ≡ below (folder c) path
+  pub rest : path ≡ child (folder c) file.path
   pub lies : IfSome told (λ files. IsFile (is_git_source c) (folder c)
       (view_of files unread (Some (kid_of c))).list path)
   pub decides : step_of b (used b c) file.path (is_decided_by file) ≡ step

@@ -1,5 +1,5 @@
 //! What is seen of one file.
-ghost use Rattle.std.specs.Prelude.{◌≡◌, ◌++◌, ℕ, IfOk, Some, not, option_map};
+ghost use Rattle.std.specs.Prelude.{◌≡◌, ◌+◌, ◌++◌, ◌≤◌, ℕ, IfOk, Some, not, option_map};
 ghost use Rattle.std.specs.Option.{option_copied};
 ghost use Rattle.deny_base_disk.specs.Disk.{IsLater};
 ghost use Rattle.deny_base_unread.specs.Added.{added};
@@ -10,6 +10,7 @@ ghost use Rattle.deny_cfg_build.specs.Globs.{extension_text};
 ghost use Rattle.deny_spec_report.specs.BuildScripts.{used};
 ghost use Rattle.deny_krates.specs.Crates.{crate_view};
 ghost use Rattle.deny_spec.specs.Crates as crates;
+ghost use Rattle.deny_build_scan.specs.Failures.{calls_of};
 ghost use Rattle.deny_build_scan.specs.Seen.{IsFileSeen, of_crate};
 ghost use Rattle.deny_build_scan.specs.Why.{IsBecause};
 ghost use Rattle.deny_build_scan.specs.private.Entries.{IsFoundFor, entries_for, entries_of, gaps_of};
@@ -57,6 +58,8 @@ pub(crate) fn see_file<D: PackageFiles>(
         ≡ unread.old ++ entries_of (building_view config.now) (crate_view place krate.now) path.now file) }
     ensures caused { IfOk result (λ _. (folder : Folders) →
         AreCaused folder (D.seen disk.old) (D.seen disk.new) (added unread.old unread.new)) }
+    ensures faults { IfOk result (λ file. (D.seen disk.new).faults
+        ≤ (D.seen disk.old).faults + calls_of file.seen.found) }
     ensures later { IsLater (D.seen disk.old) (D.seen disk.new) }
 {
     let rest = below(root, path);
@@ -103,6 +106,8 @@ fn find<D: PackageFiles>(
         unread.new ≡ unread.old ++ entries_for asks (Some krate.now.id) path.now found) }
     ensures caused { IfOk result (λ _. (folder : Folders) →
         AreCaused folder (D.seen disk.old) (D.seen disk.new) (added unread.old unread.new)) }
+    ensures faults { IfOk result (λ found. (D.seen disk.new).faults
+        ≤ (D.seen disk.old).faults + calls_of found) }
     ensures later { IsLater (D.seen disk.old) (D.seen disk.new) }
 {
     match asks {

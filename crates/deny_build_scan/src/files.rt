@@ -1,5 +1,5 @@
 //! What is seen of the files of a package.
-ghost use Rattle.std.specs.Prelude.{◌≡◌, ◌++◌, [], ℕ, IfOk, OnOk, map, option_map};
+ghost use Rattle.std.specs.Prelude.{◌≡◌, ◌+◌, ◌++◌, ◌≤◌, [], ℕ, IfOk, OnOk, map, option_map};
 ghost use Rattle.std.specs.List.{AllZip};
 ghost use Rattle.std.specs.Option.{option_copied};
 ghost use Rattle.deny_base_disk.specs.Disk.{IsLater};
@@ -10,6 +10,7 @@ ghost use Rattle.deny_cfg_build.specs.BuildingView.{building_view, bypass_view};
 ghost use Rattle.deny_cfg_build.specs.Globs.{extension_text};
 ghost use Rattle.deny_spec_report.specs.BuildScripts.{used};
 ghost use Rattle.deny_krates.specs.Crates.{crate_view};
+ghost use Rattle.deny_build_scan.specs.Failures.{calls_for_files};
 ghost use Rattle.deny_build_scan.specs.Seen.{IsFileSeen};
 ghost use Rattle.deny_build_scan.specs.Why.{IsBecause};
 ghost use Rattle.deny_build_scan.specs.private.Entries.{entries_of_all, gaps_of};
@@ -49,6 +50,8 @@ pub(crate) fn see_files<D: PackageFiles>(
         (building_view config.now) (crate_view place krate.now) (map (λ p. p.path) paths.now) files) }
     ensures caused { IfOk result (λ _. (folder : Folders) →
         AreCaused folder (D.seen disk.old) (D.seen disk.new) (added unread.old unread.new)) }
+    ensures faults { IfOk result (λ files. (D.seen disk.new).faults
+        ≤ (D.seen disk.old).faults + calls_for_files files) }
     ensures later { IsLater (D.seen disk.old) (D.seen disk.new) }
 {
     let allowed = Allowed::new(alloc, bypass)?;
@@ -96,6 +99,8 @@ fn see_each<D: PackageFiles>(
         (building_view config.now) (crate_view place krate.now) (map (λ p. p.path) paths.now) files.new) }
     ensures caused { OnOk result ((folder : Folders) →
         AreCaused folder (D.seen disk.old) (D.seen disk.new) (added unread.old unread.new)) }
+    ensures faults { OnOk result ((D.seen disk.new).faults ≤ (D.seen disk.old).faults
+        + calls_for_files files.new) }
     ensures later { IsLater (D.seen disk.old) (D.seen disk.new) }
 {
     let root = krate.folder();

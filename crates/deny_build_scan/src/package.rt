@@ -1,5 +1,5 @@
 //! What is seen of one package.
-ghost use Rattle.std.specs.Prelude.{◌≡◌, ℕ, Contains, IfOk, OnOk, Some};
+ghost use Rattle.std.specs.Prelude.{◌≡◌, ℕ, ◌+◌, ◌≤◌, Contains, IfOk, OnOk, Some};
 ghost use Rattle.std.specs.Option.{option_copied};
 ghost use Rattle.deny_base_disk.specs.Disk.{IsLater};
 ghost use Rattle.deny_base_unread.specs.Added.{IsLonger, added};
@@ -11,6 +11,7 @@ ghost use Rattle.deny_cfg_build.specs.BuildingView.{building_view};
 ghost use Rattle.deny_build_bypass.specs.Marks.{reached_by};
 ghost use Rattle.deny_krates.specs.Crates.{crate_view};
 ghost use Rattle.deny_spec.specs.Crates as crates;
+ghost use Rattle.deny_build_scan.specs.Failures.{calls_for, calls_for_files, calls_for_folders};
 ghost use Rattle.deny_build_scan.specs.Seen.{IsPackageSeen, IsWalkSeen};
 ghost use Rattle.deny_build_scan.specs.Why.{IsBecause};
 ghost use Rattle.deny_build_scan.specs.private.Walks.{AreOfWalk, AreWantedOf};
@@ -54,6 +55,8 @@ pub(crate) fn see_package<D: PackageFiles>(
     ensures caused { OnOk result ((folder : Folders) → folder (Some krate.now.id)
         ≡ crates.folder (crate_view place krate.now)
         → AreCaused folder (D.seen disk.old) (D.seen disk.new) (added unread.old unread.new)) }
+    ensures faults { IfOk result (λ contents. (D.seen disk.new).faults
+        ≤ (D.seen disk.old).faults + calls_for contents) }
     ensures later { IsLater (D.seen disk.old) (D.seen disk.new) }
 {
     let script = see_script(alloc, by, home, place, krate, disk, unread)?;
@@ -92,6 +95,8 @@ fn walk<D: PackageFiles>(
     ensures caused { OnOk result ((place : ℕ) (folder : Folders) → folder (Some krate.now.id)
         ≡ crates.folder (crate_view place krate.now)
         → AreCaused folder (D.seen disk.old) (D.seen disk.new) (added unread.old unread.new)) }
+    ensures faults { OnOk result ((D.seen disk.new).faults ≤ (D.seen disk.old).faults
+        + (calls_for_folders contents.new.unlisted + calls_for_files contents.new.files)) }
     ensures later { IsLater (D.seen disk.old) (D.seen disk.new) }
 {
     let walked = walk_package(

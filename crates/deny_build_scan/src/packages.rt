@@ -1,5 +1,5 @@
 //! What is seen of the packages of a graph.
-ghost use Rattle.std.specs.Prelude.{◌<◌, IfOk, OnOk};
+ghost use Rattle.std.specs.Prelude.{◌+◌, ◌<◌, ◌≤◌, IfOk, OnOk, sum_by};
 ghost use Rattle.std.specs.Option.{option_copied};
 ghost use Rattle.deny_base_disk.specs.Disk.{IsLater};
 ghost use Rattle.deny_base_unread.specs.Added.{IsLonger, added};
@@ -8,6 +8,7 @@ ghost use Rattle.deny_base_unread.specs.Causes.{AreCaused};
 ghost use Rattle.deny_cfg_build.specs.Build.{IsReadBuild};
 ghost use Rattle.deny_cfg_build.specs.BuildingView.{building_view};
 ghost use Rattle.deny_build_bypass.specs.Marks.{reached_by};
+ghost use Rattle.deny_build_scan.specs.Failures.{calls_for};
 ghost use Rattle.deny_build_scan.specs.Seen.{ArePackagesSeen, ArePackagesSeenBy};
 ghost use Rattle.deny_build_scan.specs.Wanted.{AreWantedPackages};
 ghost use Rattle.deny_build_scan.specs.Why.{AreFoldersOf, IsBecause};
@@ -27,7 +28,8 @@ use std::alloc::Global;
 /// `marks` marks, by their places, the crates that lead to one that executes at build time; paths
 /// are shown below `home`, cargo's home, where there is one.
 ///
-/// What cannot be read has its failure in the package, and one entry at the end of `unread`.
+/// What cannot be read has its failure in the package, and one entry at the end of `unread`. Each
+/// call that failed has such a failure.
 pub fn see_packages<D: PackageFiles>(
     alloc: Global,
     config: &ValidBuildConfig,
@@ -49,6 +51,8 @@ pub fn see_packages<D: PackageFiles>(
     ensures longer { OnOk result (IsLonger unread.old unread.new) }
     ensures caused { OnOk result ((folder : Folders) → AreFoldersOf krates.now folder
         → AreCaused folder (D.seen disk.old) (D.seen disk.new) (added unread.old unread.new)) }
+    ensures faults { IfOk result (λ packages. (D.seen disk.new).faults
+        ≤ (D.seen disk.old).faults + sum_by calls_for packages) }
     ensures later { IsLater (D.seen disk.old) (D.seen disk.new) }
 {
     let by = Checking {

@@ -1,11 +1,12 @@
 //! What is read of one file: its checksum, or what its first bytes say.
-ghost use Rattle.std.specs.Prelude.{◌≡◌, ◌++◌, IfOk, Some};
+ghost use Rattle.std.specs.Prelude.{◌≡◌, ◌+◌, ◌++◌, ◌≤◌, IfOk, Some};
 ghost use Rattle.deny_base_disk.specs.Disk.{IsLater};
 ghost use Rattle.deny_base_unread.specs.Added.{added};
 ghost use Rattle.deny_base_unread.specs.Bound.{Folders};
 ghost use Rattle.deny_base_unread.specs.Causes.{AreCaused};
 ghost use Rattle.deny_base.specs.Unread.{asked};
 ghost use Rattle.deny_base.specs.declared.purpose.Purpose.TheVariants as purpose;
+ghost use Rattle.deny_build_scan.specs.Failures.{calls_of};
 ghost use Rattle.deny_build_scan.specs.Seen.{IsKindSeen, IsSumSeen};
 ghost use Rattle.deny_build_scan.specs.Why.{IsBecause};
 ghost use Rattle.deny_build_scan.specs.private.Entries.{IsSummed, is_failed, noted};
@@ -36,6 +37,8 @@ pub(crate) fn read_sum<D: PackageFiles>(
         unread.new ≡ unread.old ++ noted (asked (Some krate.now) purpose path.now) found) }
     ensures caused { IfOk result (λ _. (folder : Folders) →
         AreCaused folder (D.seen disk.old) (D.seen disk.new) (added unread.old unread.new)) }
+    ensures faults { IfOk result (λ found. (D.seen disk.new).faults
+        ≤ (D.seen disk.old).faults + calls_of found) }
     ensures later { IsLater (D.seen disk.old) (D.seen disk.new) }
 {
     match sha256_of_file(alloc, disk, path) {
@@ -63,6 +66,8 @@ pub(crate) fn read_header<D: PackageFiles>(
         unread.new ≡ unread.old ++ noted (asked (Some krate.now) purpose.Header path.now) found) }
     ensures caused { IfOk result (λ _. (folder : Folders) →
         AreCaused folder (D.seen disk.old) (D.seen disk.new) (added unread.old unread.new)) }
+    ensures faults { IfOk result (λ found. (D.seen disk.new).faults
+        ≤ (D.seen disk.old).faults + calls_of found) }
     ensures later { IsLater (D.seen disk.old) (D.seen disk.new) }
 {
     match check_is_executable(alloc, disk, path, no_archives) {

@@ -1,5 +1,5 @@
 //! What is seen of a build script.
-ghost use Rattle.std.specs.Prelude.{◌≡◌, ◌++◌, ℕ, IfOk, Some, option_map};
+ghost use Rattle.std.specs.Prelude.{◌≡◌, ◌+◌, ◌++◌, ◌≤◌, ℕ, IfOk, Some, option_map};
 ghost use Rattle.std.specs.Option.{option_copied};
 ghost use Rattle.deny_base_disk.specs.Disk.{IsLater};
 ghost use Rattle.deny_base_unread.specs.Added.{added};
@@ -10,6 +10,7 @@ ghost use Rattle.deny_base.specs.declared.purpose.Purpose.TheVariants as purpose
 ghost use Rattle.deny_cfg_build.specs.BuildingView.{building_view};
 ghost use Rattle.deny_build_bypass.specs.Marks.{reached_by};
 ghost use Rattle.deny_krates.specs.Crates.{crate_view, target_view};
+ghost use Rattle.deny_build_scan.specs.Failures.{calls_for_script, calls_of};
 ghost use Rattle.deny_build_scan.specs.Seen.{AreBoth, IsScriptSeen, script_asked};
 ghost use Rattle.deny_build_scan.specs.Why.{IsBecause};
 ghost use Rattle.deny_build_scan.specs.private.Entries.{noted};
@@ -45,6 +46,8 @@ pub(crate) fn see_script<D: PackageFiles>(
         (crate_view place krate.now)) script) }
     ensures caused { IfOk result (λ _. (folder : Folders) →
         AreCaused folder (D.seen disk.old) (D.seen disk.new) (added unread.old unread.new)) }
+    ensures faults { IfOk result (λ script. (D.seen disk.new).faults
+        ≤ (D.seen disk.old).faults + calls_for_script script) }
     ensures later { IsLater (D.seen disk.old) (D.seen disk.new) }
 {
     match script_asked(by, place, krate) {
@@ -84,6 +87,8 @@ fn read_script<D: PackageFiles>(
         ≡ unread.old ++ noted (asked (Some krate.now.id) purpose.Script target.now.src_path) seen.found) }
     ensures caused { IfOk result (λ _. (folder : Folders) →
         AreCaused folder (D.seen disk.old) (D.seen disk.new) (added unread.old unread.new)) }
+    ensures faults { IfOk result (λ seen. (D.seen disk.new).faults
+        ≤ (D.seen disk.old).faults + calls_of seen.found) }
     ensures later { IsLater (D.seen disk.old) (D.seen disk.new) }
 {
     let path = target.src_path.as_str();

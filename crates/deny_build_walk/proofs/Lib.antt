@@ -1,3 +1,4 @@
+pub mod CrowdedLemmas
 pub mod MovedLemmas
 pub mod PathLemmas
 pub mod SumLemmas

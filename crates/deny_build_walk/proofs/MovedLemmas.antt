@@ -1,8 +1,8 @@
 -- A walk stays a walk where the files found are put in another order.
-use Rattle.std.proofs.Common.{ℕ, Bool, List, Option, None, Some}
+use Rattle.std.proofs.Common.{ℕ, Bool, List, Option, None, Some, arith}
 use Rattle.std.specs.Prelude.{IfSome}
 use Rattle.std.specs.List.Sorted.{IsPermutation}
-use Rattle.std.proofs.lemmas.List.Sorted.{Contains-permutation, IsPermutation-sym}
+use Rattle.std.proofs.lemmas.List.Sorted.{Contains-permutation, IsPermutation-sym, length_permutation}
 use Rattle.deny_base_disk.specs.Disk.{Disk, Files}
 use Rattle.deny_base.specs.declared.span.Kid.{Kid}
 use Rattle.deny_base.specs.declared.unread.Unread.{Unread}
@@ -41,5 +41,10 @@ module _ (krate : Kid) (root : List ℕ) (by_git : Bool) (pending found moved : 
       above = walk.above;
       caused = walk.caused;
       rose = walk.rose;
+      once = walk.once;
+      few = omega (arith, length_permutation found moved same, walk.few);
+      inside = walk.inside;
+      below = λ path there.
+          walk.below path (Contains-permutation moved found path (IsPermutation-sym found moved same) there);
       told = told_moved start.files walk.own walk.told;
     }

@@ -57,19 +57,23 @@ child_begins prefix folder name begins =
 in_behind : (root path : List ℕ) → starts_with nat_eq path (prefix_of root) ≡ true → is_in root path ≡ true
 in_behind root path begins = ap (λ b. bytes_eq path root || b) begins ∙ or-true (bytes_eq path root)
 
-in_itself : (root : List ℕ) → is_in root root ≡ true
+pub in_itself : (root : List ℕ) → is_in root root ≡ true
 in_itself root = ap (λ b. b || starts_with nat_eq root (prefix_of root)) ((bytes_eq-Decides root root).1 refl)
 
-child_in : (root folder name : List ℕ) → is_in root folder ≡ true → is_in root (child folder name) ≡ true
-child_in root folder name is =
-    in_behind root (child folder name)
-    (elim (or_cases (bytes_eq folder root) (starts_with nat_eq folder (prefix_of root)) is)
+-- the children of a folder that lies in the root are below it
+pub child_below : (root folder name : List ℕ) → is_in root folder ≡ true
+    → starts_with nat_eq (child folder name) (prefix_of root) ≡ true
+child_below root folder name is =
+    elim (or_cases (bytes_eq folder root) (starts_with nat_eq folder (prefix_of root)) is)
     as (λ _. starts_with nat_eq (child folder name) (prefix_of root) ≡ true) [
       | inl same ↦ subst (λ f. starts_with nat_eq (child f name) (prefix_of root) ≡ true)
           (sym ((bytes_eq-Decides folder root).0 same))
           ((starts_is Decides-eqb (child root name) (prefix_of root) _ refl).1 name refl)
       | inr below ↦ child_begins (prefix_of root) folder name below
-    ])
+    ]
+
+pub child_in : (root folder name : List ℕ) → is_in root folder ≡ true → is_in root (child folder name) ≡ true
+child_in root folder name is = in_behind root (child folder name) (child_below root folder name is)
 
 pub folder_in : (Has : List ℕ → List ℕ → Type 0) (root path : List ℕ) → IsFolderBy Has root path
     → is_in root path ≡ true

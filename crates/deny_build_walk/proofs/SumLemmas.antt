@@ -17,7 +17,7 @@ use Rattle.deny_base_disk.specs.Children.{children, entry_behind, prefix_of}
 use Rattle.deny_base_disk.specs.Disk.{Files, is_folder}
 use Rattle.deny_base_disk.specs.declared.disk.Place.{Place}
 use Rattle.deny_base_unread.specs.Bound.{entries_in, is_in}
-use Rattle.deny_build_walk.specs.private.Walking.{AreApart}
+use Rattle.deny_build_walk.specs.Walk.{AreApart}
 
 -- ---- the sum over a part of a list
 

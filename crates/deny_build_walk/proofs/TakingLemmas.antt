@@ -100,7 +100,7 @@ length_puts ks (path ∷ paths) =
 
 -- ---- the paths taken from entries
 
-length_given : (h : Entry → Option (List ℕ)) (entries : List Entry) → length (filter_map h entries) ≤ length entries
+pub length_given : (h : Entry → Option (List ℕ)) (entries : List Entry) → length (filter_map h entries) ≤ length entries
 length_given h [] = omega arith
 length_given h (entry ∷ entries) =
     let others : length (filter_map h entries) ≤ length entries = length_given h entries in

@@ -1,14 +1,15 @@
 -- A walk that has ended: the folders and files found are those of the view.
-use Rattle.std.proofs.Common.{nat_cmp, arith, length, ◌<◌, ◌≡◌, ◌∙◌, ℕ, Bool, true, false, List, [], ◌∷◌, Option}
-use Rattle.std.proofs.Common.{None, Some, refl, sym, ap, subst, inl, inr}
+use Rattle.std.proofs.Common.{nat_cmp, arith, length, ◌+◌, ◌^◌, ◌<◌, ◌≤◌, ◌≡◌, ◌∙◌, ℕ, Bool, true, false, List, [], ◌∷◌}
+use Rattle.std.proofs.Common.{Option, None, Some, refl, sym, ap, subst, inl, inr}
 use Rattle.std.specs.Prelude.{Contains, IfSome}
-use Rattle.std.specs.Cmp.Lexicographic.{slice_cmp}
+use Rattle.std.specs.Cmp.Lexicographic.{nat_list_cmp_total, slice_cmp}
 use Rattle.std.proofs.lemmas.Bool.{false≢true}
 use Rattle.std.proofs.lemmas.Option.{none-some}
 use Rattle.deny_base_lists.specs.Ascending.{Lists}
 use Rattle.std.specs.List.Sorted.{IsStrictlySortedBy}
-use Rattle.std.specs.Prelude.{map}
+use Rattle.std.specs.Prelude.{map, sum_by}
 use Rattle.deny_base_lists.proofs.Members.{no_member}
+use Rattle.deny_base_lists.proofs.Sorted.{length-ascending}
 use Rattle.deny_base_disk.specs.Children.{child, children}
 use Rattle.deny_base_disk.specs.Disk.{Disk, Files}
 use Rattle.deny_base_disk.specs.declared.disk.Entry.{Entry}
@@ -23,11 +24,13 @@ use Rattle.deny_base_unread.specs.View.{view_of}
 use Rattle.deny_base.specs.declared.purpose.Purpose.TheVariants as purpose
 use Rattle.deny_base.specs.declared.unread.Unread.{Unread}
 use Rattle.deny_build_walk.proofs.PathLemmas.{folder_grows}
-use Rattle.deny_build_walk.specs.Walk.{Holds, IsFile, IsFolder, Listing}
+use Rattle.deny_build_walk.specs.Entries.{AreListedOnce}
+use Rattle.deny_build_walk.specs.Folder.{entries_of}
+use Rattle.deny_build_walk.specs.Walk.{HasEach, Holds, IsFile, IsFolder, IsListed, Listing}
 use Rattle.deny_build_walk.specs.Walk.IsFolderBy.{inside, itself}
 use Rattle.deny_build_walk.specs.private.Walking.{HasIn, IsKnown, IsMet, ToldWalk, Walking}
 
-same_inside : (xs ys : List Entry) → Some xs ≡ Some ys → xs ≡ ys
+pub same_inside : (xs ys : List Entry) → Some xs ≡ Some ys → xs ≡ ys
 same_inside xs ys same = ap (λ (o : Option (List Entry)). elim o [ None ↦ xs | Some zs ↦ zs ]) same
 
 module _ (krate : Kid) (root : List ℕ) (by_git : Bool) (files : Files) (own : List Unread) (found : List (List ℕ))
@@ -97,6 +100,21 @@ module _ (krate : Kid) (root : List ℕ) (by_git : Bool) (files : Files) (own : 
       sound = λ path there. found_file path (all.sound path there);
     }
 
+    pub listed_each : HasEach (IsListed by_git root lists) told.listed
+    listed_each = record {
+      apart = told.apart;
+      sound = λ path there. record {
+        within = met_folder path (inl there);
+        entries = children files path;
+        seen = list_read files own (Some krate) path (told.once path there);
+      };
+      whole = λ path is. elim (folder_met path is.within) as (λ _. Contains told.listed path) [
+        | inl listed ↦ listed
+        | inr unread ↦ absurd (none-some is.entries
+            (sym (list_unread files own (Some krate) path unread) ∙ is.seen))
+      ];
+    }
+
     pub folders_wanted : ((u : Unread) → Contains own u → u ≡ asked (Some krate) purpose.List u.path)
         → (u : Unread) → Contains own u → IsFolder by_git root lists u.path
     folders_wanted listing u there =
@@ -161,3 +179,36 @@ module _ (krate : Kid) (root : List ℕ) (by_git : Bool) (start : Disk) (first :
         → IsFolder by_git root (view_of files (added first unread) (Some krate)).list u.path)
     walked_wanted = subst (λ (us : List Unread). IfSome start.files (λ files. (u : Unread) → Contains us u
         → IsFolder by_git root (view_of files us (Some krate)).list u.path)) own_is (told_wanted start.files walk.told)
+
+    told_once : (told : Option Files) → count ≤ 2 ^ 24
+        → IfSome told (λ files. now.listed
+        ≤ start.listed + (count + sum_by (entries_of files) (map (λ (u : Unread). u.path) walk.own)))
+        → IfSome told (λ files. ToldWalk krate root by_git files walk.own [] found count)
+        → IfSome told (λ files. AreListedOnce by_git root (view_of files walk.own (Some krate)).list files start now
+        (map (λ (u : Unread). u.path) walk.own))
+    told_once None few once told = tt
+    told_once (Some files) few once told = record {
+      within = record {
+        listed = told.listed;
+        are = listed_each krate root by_git files walk.own found count told;
+        few = omega (arith, few, told.counted);
+      };
+      once = omega (arith, once, told.counted);
+    }
+
+    pub walked_once : count ≤ 2 ^ 24 → IfSome start.files (λ files. AreListedOnce by_git root
+        (view_of files (added first unread) (Some krate)).list files start now
+        (map (λ (u : Unread). u.path) (added first unread)))
+    walked_once few = subst (λ (us : List Unread). IfSome start.files (λ files. AreListedOnce by_git root
+        (view_of files us (Some krate)).list files start now (map (λ (u : Unread). u.path) us))) own_is
+        (told_once start.files few walk.once walk.told)
+
+    -- each file was an entry
+    pub walked_few : count ≤ 2 ^ 24 → (paths : List (List ℕ)) → Lists (slice_cmp nat_cmp) (Contains found) paths
+        → length paths ≤ 2 ^ 24
+    walked_few few paths all = omega (
+      arith,
+      few,
+      walk.few,
+      length-ascending nat_list_cmp_total paths found all.ascending all.sound,
+    )

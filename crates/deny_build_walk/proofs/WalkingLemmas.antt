@@ -1,21 +1,23 @@
 -- How a walk begins, and the walk after one more folder.
 use Rattle.std.proofs.Common.{nat_cmp, ◌≡◌, ◌∙◌, ◌+◌, ◌^◌, ◌≤◌, ℕ, Bool, true, false, List, [], ◌∷◌, ◌++◌, fold, length}
 use Rattle.std.proofs.Common.{map, Option, None, Some, refl, sym, ap, subst, arith, inl, inr, append_assoc}
+use Rattle.std.proofs.Common.{length-append}
 use Rattle.std.specs.BTreeMap.Range.{IsLtBy}
 use Rattle.std.specs.Cmp.Lexicographic.{nat_list_cmp_total}
 use Rattle.std.specs.List.{AllByRecursion}
 use Rattle.std.specs.List.Sorted.{IsStrictlySortedBy}
 use Rattle.std.specs.declared.cmp.Ordering.TheVariants.{Less}
-use Rattle.std.specs.Prelude.{Contains, IfSome}
+use Rattle.std.specs.Prelude.{Contains, IfSome, nat_eq, sum_by}
 use Rattle.std.specs.BTreeSet.{insert_key}
 use Rattle.std.specs.Cmp.Lexicographic.{slice_cmp}
-use Rattle.std.specs.List.{filter_map}
+use Rattle.std.specs.List.{filter_map, starts_with}
 use Rattle.std.proofs.lemmas.List.{append-nil, map_push}
-use Rattle.std.proofs.lemmas.List.Elements.{All-contains, Contains-push_cases}
-use Rattle.deny_base_lists.proofs.Members.{Contains-by_cases, Contains-first, Contains-rest, no_member}
+use Rattle.std.proofs.lemmas.List.Sums.{sum_by-append}
+use Rattle.std.proofs.lemmas.List.Elements.{All-contains, Contains-append_cases, Contains-push_cases}
+use Rattle.deny_base_lists.proofs.Members.{Contains-by_cases, Contains-first, Contains-rest, contains_map, no_member}
 use Rattle.deny_base_lists.proofs.Equalities.{subst₃}
-use Rattle.deny_base_disk.specs.Children.{AreListed, children}
-use Rattle.deny_base_disk.specs.Count.{RoseBy}
+use Rattle.deny_base_disk.specs.Children.{AreListed, children, prefix_of}
+use Rattle.deny_base_disk.specs.Count.{RoseBy, counted}
 use Rattle.deny_base_disk.specs.Disk.{Disk, Files, IsLater}
 use Rattle.deny_base_disk.specs.declared.disk.Call.TheVariants as call
 use Rattle.deny_base_disk.specs.declared.disk.Entry.{Entry}
@@ -26,21 +28,23 @@ use Rattle.deny_base_unread.proofs.CauseLemmas.{caused_bounded, caused_by_call, 
 use Rattle.deny_base_disk.proofs.PieceLemmas.{later_same, later_then}
 use Rattle.deny_base_unread.proofs.Later.{failed_wider}
 use Rattle.deny_base_unread.specs.Added.{added}
-use Rattle.deny_base_unread.specs.Bound.{Folders, entries_in, is_bound}
+use Rattle.deny_base_unread.specs.Bound.{Folders, entries_in, is_bound, is_in}
 use Rattle.deny_base_unread.specs.Causes.{AreCaused}
 use Rattle.deny_base.specs.Unread.{asked}
 use Rattle.deny_base.specs.declared.purpose.Purpose.TheVariants as purpose
 use Rattle.deny_base.specs.declared.unread.Unread.{Unread}
-use Rattle.deny_build_walk.proofs.TakingLemmas.{IsLeast, above_taken}
+use Rattle.deny_build_walk.proofs.PathLemmas.{child_below, child_in, in_itself}
+use Rattle.deny_build_walk.proofs.TakingLemmas.{IsLeast, above_taken, from_puts, from_taken, length_given}
 use Rattle.deny_build_walk.proofs.ToldWalkLemmas.{told_listed, told_unlisted, with_next}
 use Rattle.deny_build_walk.specs.Cause.{CauseOf, HasCause}
-use Rattle.deny_build_walk.specs.Folder.{IsCrowded, IsUnlisted}
+use Rattle.deny_build_walk.specs.Folder.{IsCrowded, IsUnlisted, ListedAtMost, ListedOnce, entries_of, failed_calls}
 use Rattle.deny_build_walk.specs.Walk.IsFolderBy.{itself}
 use Rattle.deny_build_walk.specs.Walk.{IsFolderBy}
 use Rattle.deny_build_walk.specs.private.Taking.{path_taken}
 use Rattle.deny_build_walk.specs.declared.folder.NoList.{NoList}
 use Rattle.deny_build_walk.specs.declared.folder.NoList.TheVariants.{Crowded, Failed}
 use Rattle.deny_build_walk.specs.declared.walk.Unlisted.{Unlisted}
+use Rattle.deny_build_walk.specs.private.Crowded.{WasCrowded}
 use Rattle.deny_build_walk.specs.private.Noted.{AreNoted}
 use Rattle.deny_build_walk.specs.private.Walking.{HasIn, IsKnown, IsMet, ToldWalk, Walking}
 
@@ -95,6 +99,14 @@ sorted_push (y ∷ ys) x sorted below = (
   sorted_push ys x sorted.1 (λ z there. below z (Contains-rest y ys z there)),
 )
 
+nothing_listed : (disk : Disk) → ListedAtMost disk disk (λ files. 0 + sum_by (entries_of files) [])
+nothing_listed disk = by_files disk.files
+  where
+    by_files : (told : Option Files)
+        → IfSome told (λ files. disk.listed ≤ disk.listed + (0 + sum_by (entries_of files) []))
+    by_files None = tt
+    by_files (Some files) = omega arith
+
 start_here : (krate : Kid) (root : List ℕ) (by_git : Bool) (disk : Disk) (unread : List Unread)
     → Walking krate root by_git disk unread disk unread (root ∷ []) [] 0
 start_here krate root by_git disk unread = record {
@@ -106,6 +118,12 @@ start_here krate root by_git disk unread = record {
   above = λ path other there. absurd (no_member path there);
   caused = λ folder at. caused_none folder disk disk (later_same disk);
   rose = omega arith;
+  once = nothing_listed disk;
+  few = omega arith;
+  inside = λ path there. Contains-by_cases root [] path there
+      (λ here. subst (λ (p : List ℕ). is_in root p ≡ true) here (in_itself root))
+      (λ other. absurd (no_member path other));
+  below = λ path there. absurd (no_member path there);
   told = told_start krate root by_git disk.files;
 }
 
@@ -152,10 +170,52 @@ module _ (krate : Kid) (root : List ℕ) (by_git : Bool) (start : Disk) (first :
     rose_more n rose =
         let before : RoseBy count start.listed old.listed = walk.rose in omega (arith, before, rose)
 
+    once_listed : (told : Option Files) (n : ℕ) (unlisted : Files → ℕ) → new.listed ≡ counted old.listed n
+        → IfSome told (λ files. old.listed ≤ start.listed + (count + unlisted files))
+        → IfSome told (λ files. new.listed ≤ start.listed + ((count + n) + unlisted files))
+    once_listed None n unlisted rose once = tt
+    once_listed (Some files) n unlisted rose once = omega (arith, rose, once)
+
+    few_found : (entries : List Entry) → length (now_found entries) ≤ count + length entries
+    few_found entries =
+        let more : length (filter_map (path_taken by_git root next false) entries) ≤ length entries =
+        length_given (path_taken by_git root next false) entries in
+        omega (
+          arith,
+          walk.few,
+          more,
+          length-append found (filter_map (path_taken by_git root next false) entries),
+        )
+
+    next_in : is_in root next ≡ true
+    next_in = walk.inside next (Contains-first next pending)
+
+    taken_in : (entries : List Entry) (path : List ℕ) → Contains (now_pending entries) path → is_in root path ≡ true
+    taken_in entries path there =
+        elim (from_puts pending (filter_map (path_taken by_git root next true) entries) path there)
+        as (λ _. is_in root path ≡ true) [
+          | inl old ↦ walk.inside path (Contains-rest next pending path old)
+          | inr new ↦
+              let of = from_taken by_git root next true entries path new in
+              subst (λ (p : List ℕ). is_in root p ≡ true) (sym of.is) (child_in root next of.name next_in)
+        ]
+
+    found_below : (entries : List Entry) (path : List ℕ) → Contains (now_found entries) path
+        → starts_with nat_eq path (prefix_of root) ≡ true
+    found_below entries path there =
+        elim (Contains-append_cases found (filter_map (path_taken by_git root next false) entries) path there)
+        as (λ _. starts_with nat_eq path (prefix_of root) ≡ true) [
+          | inl old ↦ walk.below path old
+          | inr new ↦
+              let of = from_taken by_git root next false entries path new in
+              subst (λ (p : List ℕ). starts_with nat_eq p (prefix_of root) ≡ true) (sym of.is)
+              (child_below root next of.name next_in)
+        ]
+
     -- the folder was listed
     pub walking_listed : (entries : List Entry) → AreListed entries
         → IfSome old.files (λ files. entries ≡ children files next)
-        → RoseBy (length entries) old.listed new.listed
+        → new.listed ≡ counted old.listed (length entries)
         → Walking krate root by_git start first new unread (now_pending entries) (now_found entries)
         (count + length entries)
     walking_listed entries names are rose = record {
@@ -169,7 +229,13 @@ module _ (krate : Kid) (root : List ℕ) (by_git : Bool) (start : Disk) (first :
           (above_taken by_git root next pending entries other names least waits);
       caused = λ folder at.
           caused_wider folder start start old new walk.own (later_same start) later (walk.caused folder at);
-      rose = rose_more (length entries) rose;
+      rose = rose_more (length entries)
+          (let by : RoseBy (length entries) old.listed new.listed = omega (arith, rose) in by);
+      once = once_listed start.files (length entries)
+          (λ files. sum_by (entries_of files) (map (λ (u : Unread). u.path) walk.own)) rose walk.once;
+      few = few_found entries;
+      inside = taken_in entries;
+      below = found_below entries;
       told = reported_with start.files entries
           (subst (λ (told : Option Files). IfSome told (λ files. entries ≡ children files next)) walk.later.files are)
           walk.told;
@@ -178,7 +244,7 @@ module _ (krate : Kid) (root : List ℕ) (by_git : Bool) (start : Disk) (first :
     -- the folder was listed, for lists and entries that equal those of the step
     pub walking_taken : (entries items : List Entry) (more : List Unread) (ps fs : List (List ℕ)) (n : ℕ)
         → AreListed entries → IfSome old.files (λ files. entries ≡ children files next)
-        → RoseBy (length entries) old.listed new.listed → items ≡ entries → more ≡ unread ++ []
+        → new.listed ≡ counted old.listed (length entries) → items ≡ entries → more ≡ unread ++ []
         → ps ≡ now_pending items → fs ≡ now_found items → n ≡ count + length items
         → Walking krate root by_git start first new more ps fs n
     walking_taken entries items more ps fs n names are rose same none ps_are fs_are n_is =
@@ -260,11 +326,25 @@ module _ (krate : Kid) (root : List ℕ) (by_git : Bool) (start : Disk) (first :
         (sorted_push (map (λ (u : Unread). u.path) walk.own) next walk.ordered
         (λ path there. walk.above path next there (Contains-first next pending)))
 
+    once_unlisted : (told : Option Files) → IfSome told (λ files. new.listed ≤ old.listed + entries_of files next)
+        → IfSome told (λ files. old.listed
+        ≤ start.listed + (count + sum_by (entries_of files) (map (λ (u : Unread). u.path) walk.own)))
+        → IfSome told (λ files. new.listed
+        ≤ start.listed + (count + sum_by (entries_of files) (map (λ (u : Unread). u.path) (walk.own ++ entry ∷ []))))
+    once_unlisted None here before = tt
+    once_unlisted (Some files) here before =
+        let paths : List (List ℕ) = map (λ (u : Unread). u.path) walk.own in
+        let both : sum_by (entries_of files) (map (λ (u : Unread). u.path) (walk.own ++ entry ∷ []))
+        ≡ sum_by (entries_of files) paths + (0 + entries_of files next) =
+        ap (sum_by (entries_of files)) (map_push (λ (u : Unread). u.path) walk.own entry)
+        ∙ sum_by-append (entries_of files) paths (next ∷ []) in
+        omega (arith, here, before, both)
+
     -- the folder was not listed
     pub walking_unlisted : (why : NoList) (room : ℕ) (more : List Unread) → count + room ≡ 2 ^ 24
-        → more ≡ unread ++ entry ∷ [] → IsUnlisted why old new next room
+        → more ≡ unread ++ entry ∷ [] → ListedOnce old new next → IsUnlisted why old new next room
         → Walking krate root by_git start first new more pending found count
-    walking_unlisted why room more full is unlisted = record {
+    walking_unlisted why room more full is once unlisted = record {
       own = walk.own ++ entry ∷ [];
       longer = is ∙ ap (λ us. us ++ entry ∷ []) walk.longer ∙ append_assoc first walk.own (entry ∷ []);
       later = later_then start old new walk.later later;
@@ -274,23 +354,35 @@ module _ (krate : Kid) (root : List ℕ) (by_git : Bool) (start : Disk) (first :
       caused = λ folder at. caused_unlisted why room folder at full unlisted;
       rose = (let before : RoseBy count start.listed old.listed = walk.rose in
           let now : RoseBy count start.listed new.listed = omega (arith, before, later.listed) in now);
+      once = once_unlisted start.files
+          (subst (λ (told : Option Files). IfSome told (λ files. new.listed ≤ old.listed + entries_of files next))
+          walk.later.files once) walk.once;
+      few = walk.few;
+      inside = λ path there. walk.inside path (Contains-rest next pending path there);
+      below = walk.below;
       told = told_without start.files walk.told;
     }
 
     -- ---- the folders without a list
 
-    noted_wider : (notes : List Unlisted) → AreNoted krate root start first old unread notes → (folder : Folders)
+    noted_wider : (notes : List Unlisted) → AreNoted krate root by_git start first old unread notes → (folder : Folders)
         → folder (Some krate) ≡ root → (n : Unlisted) → Contains notes n → HasCause folder start new krate n
     noted_wider notes noted folder at n there = cause_wider folder start old new krate n.why n.path later
         (noted.causes folder at n there)
 
     -- none is added where the folder was listed
     pub noted_listed : (notes new_notes : List Unlisted) (more : List Unread) → more ≡ unread ++ [] → new_notes ≡ notes
-        → AreNoted krate root start first old unread notes → AreNoted krate root start first new more new_notes
-    noted_listed notes new_notes more none same noted =
-        subst (λ (us : List Unread). AreNoted krate root start first new us new_notes) (sym (none ∙ append-nil unread))
-        (subst (λ (ns : List Unlisted). AreNoted krate root start first new unread ns) (sym same)
-        (record { paths = noted.paths; causes = noted_wider notes noted }))
+        → new.faults ≡ old.faults
+        → AreNoted krate root by_git start first old unread notes → AreNoted krate root by_git start first new more new_notes
+    noted_listed notes new_notes more none same quiet noted =
+        subst (λ (us : List Unread). AreNoted krate root by_git start first new us new_notes) (sym (none ∙ append-nil unread))
+        (subst (λ (ns : List Unlisted). AreNoted krate root by_git start first new unread ns) (sym same)
+        (record {
+          paths = noted.paths;
+          causes = noted_wider notes noted;
+          faults = omega (arith, quiet, noted.faults);
+          crowded = noted.crowded;
+        }))
 
     added_more : (more : List Unread) → more ≡ unread ++ entry ∷ []
         → added first more ≡ added first unread ++ entry ∷ []
@@ -300,14 +392,86 @@ module _ (krate : Kid) (root : List ℕ) (by_git : Bool) (start : Disk) (first :
         added_is first (walk.own ++ entry ∷ []) more whole
         ∙ ap (λ us. us ++ entry ∷ []) (sym (added_is first walk.own unread walk.longer))
 
+    -- the folder's entries are more than there was room for, where that is why it has no list
+    abbrev IsFull : Option Files → NoList → ℕ → Type 0
+    IsFull told why room = IfSome told (λ files. why ≡ Crowded → room + 1 ≤ entries_of files next)
+
+    full_of : (why : NoList) (room : ℕ) → IsUnlisted why old new next room → IsFull old.files why room
+    full_of Failed room unlisted = none_full old.files
+      where
+        none_full : (told : Option Files) → IsFull told Failed room
+        none_full None = tt
+        none_full (Some files) = λ is. absurd (cc is)
+    full_of Crowded room unlisted = all_full old.files unlisted.told
+      where
+        all_full : (told : Option Files) → IfSome told (λ files. room + 1 ≤ length (children files next))
+            → IsFull told Crowded room
+        all_full None many = tt
+        all_full (Some files) many = λ is. many
+
+    -- one more folder without a list, with the walk before it
+    crowded_more : (told : Option Files) (why : NoList) (room : ℕ) (notes : List Unlisted) (more : List Unread)
+        → more ≡ walk.own ++ entry ∷ [] → count + room ≡ 2 ^ 24 → IsFull told why room
+        → IfSome told (λ files. ToldWalk krate root by_git files walk.own (next ∷ pending) found count)
+        → map (λ (n : Unlisted). n.path) notes ≡ map (λ (u : Unread). u.path) walk.own
+        → IfSome told (λ files. (n : Unlisted) → Contains notes n → n.why ≡ Crowded
+        → WasCrowded krate root by_git files walk.own n.path)
+        → IfSome told (λ files. (n : Unlisted) → Contains (notes ++ record { path = next; why = why } ∷ []) n
+        → n.why ≡ Crowded → WasCrowded krate root by_git files more n.path)
+    crowded_more None why room notes more is full many told paths crowded = tt
+    crowded_more (Some files) why room notes more is full many told paths crowded = λ n there crowds.
+        elim (Contains-push_cases notes record { path = next; why = why } n there)
+        as (λ _. WasCrowded krate root by_git files more n.path) [
+          | inl before ↦
+              let was = crowded n before crowds in
+              record {
+                before = was.before;
+                behind = was.behind ++ entry ∷ [];
+                is = is ∙ ap (λ us. us ++ entry ∷ []) was.is
+                    ∙ append_assoc was.before (asked (Some krate) purpose.List n.path ∷ was.behind) (entry ∷ []);
+                above = λ u within. elim (Contains-push_cases was.behind entry u within)
+                    as (λ _. slice_cmp nat_cmp n.path u.path ≡ Less) [
+                      | inl old ↦ was.above u old
+                      | inr last ↦ subst (λ (v : Unread). slice_cmp nat_cmp n.path v.path ≡ Less) last
+                          (walk.above n.path next (subst (λ (ps : List (List ℕ)). Contains ps n.path) paths
+                          (contains_map (λ (m : Unlisted). m.path) notes n before)) (Contains-first next pending))
+                    ];
+                pending = was.pending;
+                found = was.found;
+                count = was.count;
+                walk = was.walk;
+                least = was.least;
+                past = was.past;
+              }
+          | inr last ↦
+              let here : why ≡ Crowded = ap (λ (m : Unlisted). m.why) last ∙ crowds in
+              let many_here : room + 1 ≤ entries_of files next = many here in
+              subst (λ (m : Unlisted). WasCrowded krate root by_git files more m.path) last
+              (record {
+                before = walk.own;
+                behind = [];
+                is = is;
+                above = λ u within. absurd (no_member u within);
+                pending = pending;
+                found = found;
+                count = count;
+                walk = told;
+                least = least;
+                past = omega (arith, full, many_here);
+              })
+        ]
+
+    own_added : added first unread ≡ walk.own
+    own_added = added_is first walk.own unread walk.longer
+
     -- the folder is added with its cause where it was not listed
     pub noted_unlisted : (why : NoList) (room : ℕ) (notes new_notes : List Unlisted) (more : List Unread)
         → count + room ≡ 2 ^ 24 → more ≡ unread ++ entry ∷ [] → IsUnlisted why old new next room
-        → new_notes ≡ notes ++ record { path = next; why = why } ∷ []
-        → AreNoted krate root start first old unread notes → AreNoted krate root start first new more new_notes
-    noted_unlisted why room notes new_notes more full is unlisted are noted =
+        → new.faults ≤ old.faults + failed_calls why → new_notes ≡ notes ++ record { path = next; why = why } ∷ []
+        → AreNoted krate root by_git start first old unread notes → AreNoted krate root by_git start first new more new_notes
+    noted_unlisted why room notes new_notes more full is unlisted most are noted =
         let here : Unlisted = record { path = next; why = why } in
-        subst (λ (ns : List Unlisted). AreNoted krate root start first new more ns) (sym are)
+        subst (λ (ns : List Unlisted). AreNoted krate root by_git start first new more ns) (sym are)
         (record {
           paths = map_push (λ (n : Unlisted). n.path) notes here
               ∙ ap (λ ps. ps ++ next ∷ []) noted.paths
@@ -319,13 +483,33 @@ module _ (krate : Kid) (root : List ℕ) (by_git : Bool) (start : Disk) (first :
                 | inr last ↦ subst (λ (m : Unlisted). HasCause folder start new krate m) last
                     (cause_of why room folder at full unlisted)
               ];
+          faults = (let both : sum_by (λ (n : Unlisted). failed_calls n.why) (notes ++ here ∷ [])
+              ≡ sum_by (λ (n : Unlisted). failed_calls n.why) notes + (0 + failed_calls why) =
+              sum_by-append (λ (n : Unlisted). failed_calls n.why) notes (here ∷ []) in
+              omega (arith, most, noted.faults, both));
+          crowded = subst (λ (us : List Unread). IfSome start.files (λ files. (n : Unlisted)
+              → Contains (notes ++ here ∷ []) n → n.why ≡ Crowded → WasCrowded krate root by_git files us n.path))
+              (sym (added_more more is ∙ ap (λ us. us ++ entry ∷ []) own_added))
+              (crowded_more start.files why room notes (walk.own ++ entry ∷ []) refl full
+              (subst (λ (told : Option Files). IsFull told why room) walk.later.files (full_of why room unlisted))
+              walk.told (noted.paths ∙ ap (map (λ (u : Unread). u.path)) own_added)
+              (subst (λ (us : List Unread). IfSome start.files (λ files. (n : Unlisted) → Contains notes n
+              → n.why ≡ Crowded → WasCrowded krate root by_git files us n.path)) own_added noted.crowded));
         })
 
-pub noted_none : (krate : Kid) (root : List ℕ) (disk : Disk) (unread : List Unread) (notes : List Unlisted)
-    → notes ≡ [] → AreNoted krate root disk unread disk unread notes
-noted_none krate root disk unread notes none =
-    subst (λ (ns : List Unlisted). AreNoted krate root disk unread disk unread ns) (sym none)
+no_crowded : (krate : Kid) (root : List ℕ) (by_git : Bool) (told : Option Files) (own : List Unread)
+    → IfSome told (λ files. (n : Unlisted) → Contains [] n → n.why ≡ Crowded
+    → WasCrowded krate root by_git files own n.path)
+no_crowded krate root by_git None own = tt
+no_crowded krate root by_git (Some files) own = λ n there. absurd (no_member n there)
+
+pub noted_none : (krate : Kid) (root : List ℕ) (by_git : Bool) (disk : Disk) (unread : List Unread)
+    (notes : List Unlisted) → notes ≡ [] → AreNoted krate root by_git disk unread disk unread notes
+noted_none krate root by_git disk unread notes none =
+    subst (λ (ns : List Unlisted). AreNoted krate root by_git disk unread disk unread ns) (sym none)
     (record {
       paths = ap (map (λ (u : Unread). u.path)) (sym (added_is unread [] unread (sym (append-nil unread))));
       causes = λ folder at n there. absurd (no_member n there);
+      faults = omega arith;
+      crowded = no_crowded krate root by_git disk.files (added unread unread);
     })

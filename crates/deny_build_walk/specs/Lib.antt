@@ -1,4 +1,5 @@
 pub mod Cause
+pub mod Entries
 pub mod Folder
 pub mod Walk
 pub mod private

@@ -1,5 +1,5 @@
 -- Which folders and files lie below the folder of a package, by the lists of its folders.
-use Rattle.std.specs.Prelude.{◌≡◌, ℕ, ◌&&◌, Bool, true, false, List, codes, Contains, Option, Some}
+use Rattle.std.specs.Prelude.{◌≡◌, ℕ, ◌&&◌, Bool, true, false, List, [], ◌∷◌, codes, Contains, Option, Some}
 use Rattle.std.specs.Str.{bytes_eq}
 use Rattle.deny_base_disk.specs.Children.{child}
 use Rattle.deny_base_disk.specs.declared.disk.Entry.{Entry}
@@ -36,3 +36,20 @@ pub record IsFile (by_git : Bool) (root : List ℕ) (list : Listing) (path : Lis
   pub within : IsFolder by_git root list folder
   pub holds : Holds by_git root list false folder name
   pub is : path ≡ child folder name
+
+-- a folder of the package that was listed
+pub record IsListed (by_git : Bool) (root : List ℕ) (list : Listing) (path : List ℕ) : Type 0 where
+  pub within : IsFolder by_git root list path
+  pub entries : List Entry
+  pub seen : list path ≡ Some entries
+
+-- no path occurs twice
+abbrev pub AreApart : List (List ℕ) → Type 0
+AreApart [] = Unit
+AreApart (path ∷ paths) = (Contains paths path → ⊥) × AreApart paths
+
+-- the list has exactly the paths that are so, each once
+pub record HasEach (Is : List ℕ → Type 0) (paths : List (List ℕ)) : Type 0 where
+  pub apart : AreApart paths
+  pub sound : (path : List ℕ) → Contains paths path → Is path
+  pub whole : (path : List ℕ) → Is path → Contains paths path

@@ -1,3 +1,4 @@
+pub mod Crowded
 pub mod Noted
 pub mod Taking
 pub mod Walking

@@ -1,10 +1,11 @@
-ghost use Rattle.std.specs.Prelude.{◌≡◌, ◌++◌, ◌≤◌, length, is_ok, IfErr, IfOk, IfSome, OnOk, OnErr, Some};
+ghost use Rattle.std.specs.Prelude.{◌≡◌, ◌++◌, ◌+◌, ◌≤◌, length, is_ok, IfErr, IfOk, IfSome, MatchResult, OnOk};
+ghost use Rattle.std.specs.Prelude.{OnErr, Some};
 ghost use Rattle.deny_base_disk.specs.Children.{AreListed, children};
-ghost use Rattle.deny_base_disk.specs.Count.{RoseBy};
+ghost use Rattle.deny_base_disk.specs.Count.{counted};
 ghost use Rattle.deny_base_disk.specs.Disk.{IsLater};
 ghost use Rattle.deny_base.specs.Unread.{asked, if_unread};
 ghost use Rattle.deny_base.specs.declared.purpose.Purpose.TheVariants as purpose;
-ghost use Rattle.deny_build_walk.specs.Folder.{IsUnlisted};
+ghost use Rattle.deny_build_walk.specs.Folder.{IsUnlisted, ListedOnce, failed_calls};
 
 use deny_base::Kid;
 use deny_base_disk::{DiskError, Entry, PackageFiles};
@@ -21,10 +22,10 @@ pub enum NoList {
     Crowded,
 }
 
-/// The entries of the folder at `path`, in byte order of their names. Where the disk fails the
-/// call, or there are more entries than `room`, the answer is why there is no list, and one entry
-/// for the list of this folder is appended to `unread`. Where memory runs out, `unread` is
-/// unchanged.
+/// The entries of the folder at `path`, in byte order of their names. It is listed once. Where the
+/// disk fails the call, or there are more entries than `room`, the answer is why there is no list,
+/// and one entry for the list of this folder is appended to `unread`; where there is a list, no call
+/// failed. Where memory runs out, `unread` is unchanged.
 pub fn list_folder<D: PackageFiles>(
     alloc: Global,
     disk: &mut D,
@@ -38,7 +39,11 @@ pub fn list_folder<D: PackageFiles>(
     ensures entries { IfOk result (λ listed. IfOk listed (λ entries.
         IfSome (D.seen disk.old).files (λ files. entries ≡ children files path.now))) }
     ensures listed { IfOk result (λ listed. IfOk listed (λ entries.
-        RoseBy (length entries) (D.seen disk.old).listed (D.seen disk.new).listed)) }
+        (D.seen disk.new).listed ≡ counted (D.seen disk.old).listed (length entries))) }
+    ensures once { ListedOnce (D.seen disk.old) (D.seen disk.new) path.now }
+    ensures faults { IfOk result (λ listed. MatchResult listed
+        (λ _. (D.seen disk.new).faults ≡ (D.seen disk.old).faults)
+        (λ why. (D.seen disk.new).faults ≤ (D.seen disk.old).faults + failed_calls why)) }
     ensures unread { IfOk result (λ listed. unread.new ≡
         unread.old ++ if_unread (asked (Some krate.now) purpose.List path.now) (is_ok listed)) }
     ensures unlisted { IfOk result (λ listed. IfErr listed (λ why.
@@ -63,7 +68,11 @@ fn list_within<D: PackageFiles>(
     ensures entries { IfOk result (λ listed. IfOk listed (λ entries.
         IfSome (D.seen disk.old).files (λ files. entries ≡ children files path.now))) }
     ensures listed { IfOk result (λ listed. IfOk listed (λ entries.
-        RoseBy (length entries) (D.seen disk.old).listed (D.seen disk.new).listed)) }
+        (D.seen disk.new).listed ≡ counted (D.seen disk.old).listed (length entries))) }
+    ensures once { ListedOnce (D.seen disk.old) (D.seen disk.new) path.now }
+    ensures faults { IfOk result (λ listed. MatchResult listed
+        (λ _. (D.seen disk.new).faults ≡ (D.seen disk.old).faults)
+        (λ why. (D.seen disk.new).faults ≤ (D.seen disk.old).faults + failed_calls why)) }
     ensures unlisted { IfOk result (λ listed. IfErr listed (λ why.
         IsUnlisted why (D.seen disk.old) (D.seen disk.new) path.now room)) }
     ensures later { IsLater (D.seen disk.old) (D.seen disk.new) }

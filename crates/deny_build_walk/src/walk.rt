@@ -1,12 +1,13 @@
 ghost use Rattle.std.specs.Prelude.{◌≡◌, ◌++◌, [], ◌∷◌, ◌+◌, ◌-◌, ◌^◌, ◌<◌, ◌≤◌, true, false};
-ghost use Rattle.std.specs.Prelude.{All, Contains, fold, length, map, IfOk, IfSome, OnOk, Some};
+ghost use Rattle.std.specs.Prelude.{All, Contains, List, fold, length, map, nat_eq, sum_by, IfOk, IfSome, OnOk, Some, ℕ};
 ghost use Rattle.std.specs.BTreeSet.{insert_key};
 ghost use Rattle.std.specs.BTreeMap.Range.{IsLtBy};
 ghost use Rattle.std.specs.Cmp.Lexicographic.{slice_cmp};
-ghost use Rattle.std.specs.List.{filter_map};
+ghost use Rattle.std.specs.List.{filter_map, starts_with};
 ghost use Rattle.std.specs.List.Sorted.{IsPermutation, IsStrictlySortedBy};
 ghost use Rattle.std.specs.Ordering.{nat_cmp};
 ghost use Rattle.deny_base_lists.specs.Ascending.{Lists};
+ghost use Rattle.deny_base_disk.specs.Children.{prefix_of};
 ghost use Rattle.deny_base_disk.specs.Disk.{Disk, IsLater};
 ghost use Rattle.deny_base_unread.specs.Added.{IsLonger, added};
 ghost use Rattle.deny_base_unread.specs.Bound.{Folders};
@@ -18,6 +19,9 @@ ghost use Rattle.deny_base.specs.declared.unread.Unread.{Unread};
 ghost use Rattle.deny_build_walk.specs.Walk.{IsFile, IsFolder, is_left_out};
 ghost use Rattle.deny_build_walk.specs.private.Taking.{is_taken, path_taken};
 ghost use Rattle.deny_build_walk.specs.Cause.{HasCause};
+ghost use Rattle.deny_build_walk.specs.Entries.{AreListedOnce, IsPastBound};
+ghost use Rattle.deny_build_walk.specs.Folder.{failed_calls};
+ghost use Rattle.deny_build_walk.specs.declared.folder.NoList.TheVariants.{Crowded};
 ghost use Rattle.deny_build_walk.specs.declared.walk.Unlisted.{Unlisted};
 ghost use Rattle.deny_build_walk.specs.private.Noted.{AreNoted};
 ghost use Rattle.deny_build_walk.specs.private.Walking.{Walking};
@@ -59,10 +63,11 @@ struct Walk {
 }
 
 /// The paths of the files of a crate whose folder is `root`, ascending: the entries of its folder
-/// and of the folders below it that are no folders. Each folder is listed once. A folder whose list
-/// fails, or brings the package past 2^24 entries, is answered with its cause, has an entry at the
-/// end of `unread`, and is not entered. Of a crate that came by git, `.git` directly in `root` is
-/// left out.
+/// and of the folders below it that are no folders. Folders are entered in byte order of their
+/// paths, and each is listed once. A folder whose list fails, or has with those of the folders before
+/// it more than 2^24 entries, is answered with its cause, has an entry at the end of `unread`, and is
+/// not entered; no other call fails. Of a crate that came by git, `.git` directly in `root` is left
+/// out.
 pub fn walk_package<D: PackageFiles>(
     alloc: Global,
     disk: &mut D,
@@ -88,6 +93,17 @@ pub fn walk_package<D: PackageFiles>(
     ensures wanted { IfOk result (λ _. IfSome (D.seen disk.old).files (λ files.
         (u : Unread) → Contains (added unread.old unread.new) u → IsFolder by_git root.now
         (view_of files (added unread.old unread.new) (Some krate.now)).list u.path)) }
+    ensures faults { IfOk result (λ walked. (D.seen disk.new).faults ≤ (D.seen disk.old).faults
+        + sum_by (λ n. failed_calls n.why) walked.unlisted) }
+    ensures once { IfOk result (λ _. IfSome (D.seen disk.old).files (λ files. AreListedOnce by_git root.now
+        (view_of files (added unread.old unread.new) (Some krate.now)).list files (D.seen disk.old)
+        (D.seen disk.new) (map (λ u. u.path) (added unread.old unread.new)))) }
+    ensures few { IfOk result (λ walked. length walked.files ≤ 2 ^ 24) }
+    ensures past { IfOk result (λ walked. IfSome (D.seen disk.old).files (λ files. (n : Unlisted)
+        → Contains walked.unlisted n → n.why ≡ Crowded → IsPastBound by_git root.now
+        (view_of files (added unread.old unread.new) (Some krate.now)).list files n.path)) }
+    ensures below { IfOk result (λ walked. (path : List ℕ) → Contains walked.files path
+        → starts_with nat_eq path (prefix_of root.now) ≡ true) }
     ensures later { IsLater (D.seen disk.old) (D.seen disk.new) }
 {
     let mut walk = walk_from(alloc, root)?;
@@ -152,8 +168,8 @@ fn visit<D: PackageFiles>(
     ensures noted { OnOk result ((start : Disk) (first : List Unread) →
         Walking krate.now root.now by_git start first (D.seen disk.old) unread.old
         (folder.now ∷ walk.old.pending.keys) walk.old.files walk.old.count →
-        AreNoted krate.now root.now start first (D.seen disk.old) unread.old walk.old.unlisted →
-        AreNoted krate.now root.now start first (D.seen disk.new) unread.new walk.new.unlisted) }
+        AreNoted krate.now root.now by_git start first (D.seen disk.old) unread.old walk.old.unlisted →
+        AreNoted krate.now root.now by_git start first (D.seen disk.new) unread.new walk.new.unlisted) }
     ensures later { IsLater (D.seen disk.old) (D.seen disk.new) }
 {
     let room = MOST_ENTRIES - walk.count;

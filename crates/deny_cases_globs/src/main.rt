@@ -1,5 +1,5 @@
 //! Reads sets of globs and paths, a line each, and writes for each text whether it is a glob, and for each path
-//! which globs fit it. The lines and the expected answers come from `tools/cases/glob_cases.py`.
+//! which globs fit it. The lines and the expected answers come from `tools/gate/cases/glob_cases.py`.
 #![tactic(auto)]
 
 use deny_globs::{Glob, GlobError, GlobSet};

@@ -1,6 +1,6 @@
 //! Reads licence texts, one a line, and writes for each its requirements and its truth under each assignment to them,
 //! as an expression, and its parts as one requirement. The texts and the expected answers come from
-//! `tools/cases/licence_cases.py`.
+//! `tools/gate/cases/licence_cases.py`.
 #![tactic(auto)]
 
 ghost use Rattle.std.specs.Prelude.{◌≡◌, IfOk, vec_len};

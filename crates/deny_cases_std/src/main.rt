@@ -1,5 +1,5 @@
 //! Reads replacement tables from standard input, one a line, and prints the entries of each, and its bytes in
-//! version 2. `tools/cases/replacement_cases.py` writes its input and the expected answers.
+//! version 2. `tools/gate/cases/replacement_cases.py` writes its input and the expected answers.
 #![tactic(auto)]
 
 mod cases;

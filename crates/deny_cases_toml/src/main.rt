@@ -1,5 +1,5 @@
 //! Reads texts of TOML from standard input, one a line as a JSON string, and prints for each its tree in JSON,
-//! `grammar`, or `clash` with the span of the key that clashes. `tools/cases/toml_cases.py` writes its input and
+//! `grammar`, or `clash` with the span of the key that clashes. `tools/gate/cases/toml_cases.py` writes its input and
 //! the expected answers.
 #![tactic(auto)]
 

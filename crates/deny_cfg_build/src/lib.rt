@@ -1,5 +1,13 @@
 //! The table `build` of a policy, as the rules take it: with the globs that are read from its texts, and the built-in
 //! globs in a file of their own.
+//!
+//! # Choices
+//!
+//! `allow-build-scripts` in `bans` is read as a table `build` where there is none, and is deprecated there; beside a
+//! table it is read for faults, and has no effect.
+//!
+//! Texts that are no globs are left out of a set, so that what a table `build` says is defined also where something in
+//! it is wrong.
 #![tactic(auto)]
 
 mod builtin;

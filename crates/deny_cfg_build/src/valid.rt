@@ -194,7 +194,8 @@ pub fn valid_build(
     build_with_file(alloc, build, file, older_key)
 }
 
-/// The table `build`; without it, the table that a list of crates that may have build scripts stands for.
+/// The table `build` that a policy writes. Where it writes none, the table that the older key, a list of the
+/// crates that may have build scripts, is read as; none where there is neither.
 pub fn build_by(
     build: Option<BuildConfig>,
     scripts: Option<Spanned<List<PackageSpec>>>,

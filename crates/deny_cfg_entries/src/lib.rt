@@ -1,4 +1,26 @@
 //! Entries of a policy, and tables read key by key.
+//!
+//! # Choices
+//!
+//! A table is a list of its keys (`TableKey`): of each its name, the kind of its value, its default, and the field that
+//! it fills. Its faults, what is read, and that an entry depends on its own keys alone come from that list; one law
+//! turns the reads, one after another, into what the table says, so that a new key is one line of the list and one of
+//! proof.
+//!
+//! `LintLevel` and `semver::Version` are read through types of the crate's own, since type and trait are both foreign.
+//!
+//! Beside `crate`, be it without fault or not, `name` and `version` are unknown. With neither `crate` nor `name` the
+//! missing `name` is reported at the entry's table, and `version` is read. A table without other keys has no `inner`.
+//!
+//! A spec with an empty name (`@1`, `:1`, `name = ""`) is unreadable, and so is an empty requirement (`x@`). The text
+//! of the key `name` is not divided. The first `@` divides, and only a text without one is divided by its first `:`, so
+//! `x:y@1` names `x:y`. Blanks in front of a requirement stay in its text.
+//!
+//! A spec's name has its own bytes as its span where its string is on one line and as long as its span, which is so
+//! exactly where it contains no escape, also after the name; else the string's span. The tree marks strings on several
+//! lines for this.
+//!
+//! The parts of a `rust-version` may have leading zeros.
 #![tactic(auto)]
 
 mod extended;

@@ -13,6 +13,15 @@
 //!     Ok(numbers)
 //! }
 //! ```
+//!
+//! # Choices
+//!
+//! Names are found by a hash first, which compares no names, and then by a binary search among those of that hash, so
+//! that few names are compared whatever the hashes are, and adding a name moves only names of its hash. The hash is a
+//! definition, since equal names must have equal hashes; only the time that adding takes depends on different names
+//! having different hashes.
+//!
+//! `numbers_of` is `find` without a counter. Without memory for all numbers the list holds the first of them.
 #![tactic(auto)]
 
 mod bucket;

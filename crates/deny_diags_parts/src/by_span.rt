@@ -21,6 +21,7 @@ pub trait HasSpan {
 
     ghost span: { Self → Span };
 
+    /// The span by which the item is found.
     fn span(&self) -> Span
         ensures { result ≡ span self.now };
 }

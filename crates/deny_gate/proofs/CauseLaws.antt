@@ -4,7 +4,7 @@ use Rattle.std.specs.Prelude.{IfOk, IfErr}
 use Rattle.deny_cfg.specs.PolicyText.{IsPolicyOf}
 use Rattle.deny_cfg.specs.PolicyView.{policy_view}
 use Rattle.deny_cfg.specs.declared.policy.Policy.{Policy}
-use Rattle.deny_spec_removal.specs.Dead.{DeadCanGo}
+use Rattle.deny_spec_removal.specs.Removal.{EntriesCanGo}
 use Rattle.deny_spec_removal.specs.Asking.{PackagesStay}
 use Rattle.deny_spec.specs.Policy as model
 use Rattle.deny_base_disk.specs.Disk.{Disk}
@@ -23,7 +23,7 @@ use Rattle.deny_gate.specs.declared.report.GateError.TheVariants.{Config, Invali
 use Rattle.deny_gate.specs.declared.report.GateError.TheVariants.{Memory}
 use Rattle.deny_gate.specs.declared.report.Report.{Report}
 use Rattle.deny_gate.specs.Stats.{code_of, exit_code}
-use Rattle.deny_gate.proofs.DeadLaws.{without_dead}
+use Rattle.deny_gate.proofs.DeadLaws.{dead_of_unhit, without_unhit}
 use Rattle.deny_gate.proofs.ExitLaws.{exit_of}
 use Rattle.deny_gate.proofs.HeadlineLaws.{headline_of}
 
@@ -113,7 +113,8 @@ module _ (texts : InputTexts) (said : Policy) (read : List ℕ) (same : read ≡
     code_then (Ok report) on = exit_of old.files texts report (report_is report on)
     code_then (Err error) on = tt
 
-    pub dead_then : DeadCanGo → PackagesStay → (result : Result Report GateError)
+    pub dead_then : EntriesCanGo → PackagesStay → (result : Result Report GateError)
         → IfOk result (IsPolicyReport old new said texts) → IfOk result (CanDoWithoutDead old.files texts)
-    dead_then law stay (Ok report) on = without_dead law stay old.files texts report (report_is report on)
+    dead_then law stay (Ok report) on =
+        dead_of_unhit old.files texts report (without_unhit law stay old.files texts report (report_is report on))
     dead_then law stay (Err error) on = tt

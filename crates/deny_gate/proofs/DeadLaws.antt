@@ -1,4 +1,4 @@
--- The dead entries of a report can go.
+-- Entries without a hit in a report can go, its dead ones among them.
 use Rattle.std.proofs.Common.{◌≡◌, ◌∙◌, ◌++◌, Bool, List, Option, None, Some, ap, subst, sym}
 use Rattle.std.specs.Prelude.{Contains, option_map}
 use Rattle.std.specs.Cmp.{IsTotalOrder, on_total}
@@ -25,10 +25,10 @@ use Rattle.deny_spec_report.specs.PackageDiags.{mismatch_severity}
 use Rattle.deny_spec_report.specs.Holding.{AreKeys, Holds, HoldsBy}
 use Rattle.deny_spec_report.specs.Diags.{key_message}
 use Rattle.deny_spec_removal.specs.Asking.{PackagesStay}
-use Rattle.deny_spec_removal.specs.Dead.{AreAmong, AreDead, DeadCanGo}
-use Rattle.deny_spec_removal.specs.Removal.{AreGone, EmptyNone, HaveNoHit, cut_building, cut_licensing, unnaming}
-use Rattle.deny_spec_removal.specs.Removal.{without_in}
-use Rattle.deny_gate.specs.Dead.{CanDoWithoutDead, LosesOnly, ReportsTheRest}
+use Rattle.deny_spec_removal.specs.Dead.{AreAmong}
+use Rattle.deny_spec_removal.specs.Removal.{AreGone, EmptyNone, EntriesCanGo, HaveNoHit, cut_building, cut_licensing}
+use Rattle.deny_spec_removal.specs.Removal.{unnaming, without_in}
+use Rattle.deny_gate.specs.Dead.{CanDoWithoutDead, CanDoWithoutUnhit, LosesOnly, ReportsTheRest}
 use Rattle.deny_gate.specs.Gating.{IsReportOf, InputTexts, circumstances_of}
 use Rattle.deny_gate.specs.Hits.{AreHits, entry_of}
 use Rattle.deny_gate.specs.Report.{IsReport, finding_for, keys_in}
@@ -45,20 +45,10 @@ use Rattle.deny_gate.proofs.EachCode.{severity_alike}
 use Rattle.deny_gate.proofs.Severities.{MismatchAlike}
 use Rattle.deny_gate.proofs.SumsApart.{sums_differ}
 
--- an entry that is dead by the hits of a report is dead by all hits, since they have the same entries
-dead_by_all : (keys : List Key) (all hits : List Hit) (dead : List EntryId) → AreHits all hits → AreDead keys hits dead
-    → AreDead keys all dead
-dead_by_all keys all hits dead are listed = record {
-  ascending = listed.ascending;
-  whole = λ e is. listed.whole e (record {
-    reported = is.reported;
-    unhit = λ h at. is.unhit h (are.sound h at);
-  });
-  sound = λ e at. let is = listed.sound e at in record {
-    reported = is.reported;
-    unhit = λ h at. is.unhit h (are.whole h at);
-  };
-}
+-- the dead entries of a report have no hit in it
+pub dead_unhit : (c : Circumstances) (taken : List EntryId) (report : Report) → IsReport c report
+    → AreAmong report.dead taken → HaveNoHit report.hits taken
+dead_unhit c taken report is among e at = (is.dead.sound e (among e at)).unhit
 
 -- a test of which crates count for a policy's licences is one for fewer entries too
 reports_less : (o : Option Licensing) (taken : List EntryId) (g : Graph) (counts : Crate → Bool)
@@ -66,20 +56,19 @@ reports_less : (o : Option Licensing) (taken : List EntryId) (g : Graph) (counts
 reports_less None taken g counts reports = tt
 reports_less (Some l) taken g counts reports = reports
 
--- a dead entry has no hit
+-- an entry without a hit in the report has none at all
 no_hit : (c : Circumstances) (taken : List EntryId) (report : Report) (is : IsReport c report)
-    → AreAmong report.dead taken → HaveNoHit (both_hits c is.listed.facts is.counts) taken
-no_hit c taken report is among e at h hit same = ((dead_by_all is.keys (both_hits c is.listed.facts is.counts)
-    report.hits report.dead is.hits is.dead).sound e (among e at)).unhit h hit same
+    → HaveNoHit report.hits taken → HaveNoHit (both_hits c is.listed.facts is.counts) taken
+no_hit c taken report is unhit e at h hit = unhit e at h (is.hits.whole h hit)
 
-module _ (law : DeadCanGo) (c : Circumstances) (taken : List EntryId) (report : Report) (is : IsReport c report)
-    (among : AreAmong report.dead taken) (kept : EmptyNone c.policy taken) where
+module _ (law : EntriesCanGo) (c : Circumstances) (taken : List EntryId) (report : Report) (is : IsReport c report)
+    (unhit : HaveNoHit report.hits taken) (kept : EmptyNone c.policy taken) where
   keys_are : keys_in report.findings ≡ is.keys
   keys_are = ap keys_in is.findings ∙ keys_of_findings c is.keys
 
   gone : AreGone c (without_in c taken) is.listed.facts taken is.keys
-  gone = law c is.listed.facts is.counts is.keys report.dead taken is.listed.true_facts is.reports is.listed.listed
-      (dead_by_all is.keys (both_hits c is.listed.facts is.counts) report.hits report.dead is.hits is.dead) among kept
+  gone = law c is.listed.facts is.counts taken is.keys is.listed.true_facts is.reports
+      (no_hit c taken report is unhit) kept is.listed.listed
 
   hits_stay : both_hits c is.listed.facts is.counts ≡ both_hits (without_in c taken) is.listed.facts is.counts
   hits_stay = sym
@@ -94,7 +83,7 @@ module _ (law : DeadCanGo) (c : Circumstances) (taken : List EntryId) (report : 
         (unnaming taken keys)) (sym keys_are) gone.listed;
   }
 
-  -- a report of the policy without dead entries loses only what names them as unused
+  -- a report of the policy without entries that have no hit loses only what names them as unused
   pub loses_only : IsTotalOrder entry_cmp
       → ((d : Circumstances) → (xs ys : List Key) → AreKeys d xs → AreKeys d ys → xs ≡ ys)
       → (other : Report) → IsReport (without_in c taken) other → LosesOnly taken report other
@@ -117,7 +106,7 @@ module _ (law : DeadCanGo) (c : Circumstances) (taken : List EntryId) (report : 
     mismatch_by key b said coded of =
         let one : of.building ≡ b = same_Some of.building b (sym of.is_said ∙ said) in
         mismatch_alike (scanning c is.listed.facts b) taken (stay c is.listed.facts is.counts taken
-        (no_hit c taken report is among) b said)
+        (no_hit c taken report is unhit) b said)
         (differ b said) key coded
         (subst (λ (x : Building). Origin (scanning c is.listed.facts x) key) one of.origin)
 
@@ -144,18 +133,31 @@ module _ (law : DeadCanGo) (c : Circumstances) (taken : List EntryId) (report : 
       hits = subst (λ (all : List Hit). AreHits all report.hits) hits_stay is.hits;
     }
 
-pub without_dead : DeadCanGo → PackagesStay → (told : Option Files) (texts : InputTexts) (report : Report)
-    → IsReportOf told texts report → CanDoWithoutDead told texts report
-without_dead law stay told texts report of =
+pub without_unhit : EntriesCanGo → PackagesStay → (told : Option Files) (texts : InputTexts) (report : Report)
+    → IsReportOf told texts report → CanDoWithoutUnhit told texts report
+without_unhit law stay told texts report of =
     let by = of.by in
     let c = circumstances_of by.said by.graph texts.replacements of.view of.packages in
     let is = by.is_report in record {
       view = of.view;
       packages = of.packages;
       by = by;
-      can = λ taken among kept. reports_the_rest law c taken report is among kept stay
+      can = λ taken unhit kept. reports_the_rest law c taken report is unhit kept stay
           (sums_differ texts.policy by.said by.is_said);
-      sees = λ taken among. seen_without stay told c is.listed.facts is.counts taken texts.home
+      sees = λ taken unhit. seen_without stay told c is.listed.facts is.counts taken texts.home
           (of_packages report.unread) is.listed.true_facts (in_place texts.metadata by.graph by.is_graph)
-          (no_hit c taken report is among) by.packages_seen;
+          (no_hit c taken report is unhit) by.packages_seen;
+    }
+
+-- what holds of all entries without a hit holds of the dead ones
+pub dead_of_unhit : (told : Option Files) (texts : InputTexts) (report : Report) → CanDoWithoutUnhit told texts report
+    → CanDoWithoutDead told texts report
+dead_of_unhit told texts report without =
+    let c = circumstances_of without.by.said without.by.graph texts.replacements without.view without.packages in
+    let is = without.by.is_report in record {
+      view = without.view;
+      packages = without.packages;
+      by = without.by;
+      can = λ taken among. without.can taken (dead_unhit c taken report is among);
+      sees = λ taken among. without.sees taken (dead_unhit c taken report is among);
     }

@@ -185,6 +185,8 @@ module _ (told : Option Files) (c : Circumstances) (facts : Facts) (b : Building
           (IsFileSeen why told rest home (is_unread unread (Some (kid_of k))) k) is.paths contents.files
           (λ n path file at too seen. file_seen_then why home unread path file (from_there contents.files n file too)
           seen) is.files;
+      most = is.most;
+      few = is.few;
     }
 
     file_of_then : (unread : List Unread) (path : List ℕ) (step : Step)

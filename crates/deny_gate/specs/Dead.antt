@@ -1,4 +1,4 @@
--- The dead entries of a report, and what the report of a policy without them is.
+-- Entries without a hit, dead ones among them, and what the report of a policy without them is.
 use Rattle.std.specs.Prelude.{◌≡◌, Bool, List, Option, Contains, option_map}
 use Rattle.deny_base.specs.declared.entry.EntryId.{EntryId}
 use Rattle.deny_spec.specs.declared.package.Package.{Package}
@@ -8,7 +8,7 @@ use Rattle.deny_spec_report.specs.Hits.{TestsLicensed, both_hits}
 use Rattle.deny_spec_report.specs.Holding.{AreKeys}
 use Rattle.deny_spec_report.specs.Diags.{key_message}
 use Rattle.deny_spec_removal.specs.Dead.{AreAmong}
-use Rattle.deny_spec_removal.specs.Removal.{EmptyNone, cut_building, unnaming, without_in}
+use Rattle.deny_spec_removal.specs.Removal.{EmptyNone, HaveNoHit, cut_building, unnaming, without_in}
 use Rattle.deny_spec.specs.Graph.{Crate}
 use Rattle.deny_spec.specs.View.{View}
 use Rattle.deny_base_disk.specs.Disk.{Files}
@@ -32,21 +32,30 @@ pub record ReportsTheRest (c : Circumstances) (taken : List EntryId) (report : R
   pub reports : TestsLicensed (without_in c taken).licensing c.graph counts
   pub hits : AreHits (both_hits (without_in c taken) keys.facts counts) report.hits
 
--- any of the report's dead entries can go, as long as no list of wrappers is emptied
-abbrev pub DeadCanGoIn : Circumstances → Report → Type 0
-DeadCanGoIn c report = (taken : List EntryId) → AreAmong report.dead taken → EmptyNone c.policy taken
+-- any list of entries that passes a condition can go, as long as no list of wrappers is emptied
+abbrev pub CanGoIn : (List EntryId → Type 0) → Circumstances → Report → Type 0
+CanGoIn Goes c report = (taken : List EntryId) → Goes taken → EmptyNone c.policy taken
     → ReportsTheRest c taken report
 
--- Any dead entries can go from the policy of the inputs, in the circumstances that the report was made in. By what the
--- policy says of builds without them, the same is seen of packages, and the same could not be read.
-pub record CanDoWithoutDead (told : Option Files) (texts : InputTexts) (report : Report) : Type 0 where
+-- Entries that pass a condition can go from the policy of the inputs, in the circumstances that the report was made in.
+-- By what the policy says of builds without them, the same is seen of packages, and the same could not be read.
+pub record CanDoWithout (Goes : List EntryId → Type 0) (told : Option Files) (texts : InputTexts) (report : Report)
+    : Type 0 where
   pub view : View
   pub packages : List Package
   pub by : IsReportBy told texts view packages report
-  pub can : DeadCanGoIn (circumstances_of by.said by.graph texts.replacements view packages) report
-  pub sees : (taken : List EntryId) → AreAmong report.dead taken
+  pub can : CanGoIn Goes (circumstances_of by.said by.graph texts.replacements view packages) report
+  pub sees : (taken : List EntryId) → Goes taken
       → AreSeenBy told (option_map (cut_building taken) (building_of by.said.bans)) texts.home by.graph
       (of_packages report.unread) packages
+
+-- any of the report's dead entries can go
+abbrev pub CanDoWithoutDead : Option Files → InputTexts → Report → Type 0
+CanDoWithoutDead told texts report = CanDoWithout (AreAmong report.dead) told texts report
+
+-- any entries without a hit in the report can go, reported as unused or not
+abbrev pub CanDoWithoutUnhit : Option Files → InputTexts → Report → Type 0
+CanDoWithoutUnhit told texts report = CanDoWithout (HaveNoHit report.hits) told texts report
 
 -- a report has the keys of another but for those that name one of some entries as unused, and the same hits
 pub record LosesOnly (taken : List EntryId) (report other : Report) : Type 0 where

@@ -91,7 +91,7 @@ pub record IsDeniedMultiple (p : Policy) (crates : List Crate) : Type 0 where
   pub written : Contains p.deny_multiple spec
   pub matched : IsTrue (matches spec krate)
 
--- a crate of another name needs a crate: a direct dependent has another name
+-- a crate is needed by one of another name: a direct dependent of it has that
 pub record IsNeeded (g : Graph) (name : List ℕ) (c : Crate) : Type 0 where
   pub parent : Crate
   pub depends : DependsOn g parent c
@@ -150,11 +150,11 @@ is_crate_error f = has_error f && is_crate_rule f.diag.diag.code
 abbrev pub has_key : List ℕ → Value → Bool
 has_key name table = is_some (below_name name table)
 
--- a value is the level that makes errors
+-- a value is the text `deny`
 abbrev pub is_deny : Value → Bool
 is_deny v = option_map_or (λ text. bytes_eq text (codes "deny")) (text_in v) false
 
--- the value of a key is the level that makes errors
+-- the value of a key is the text `deny`
 abbrev pub denies : List ℕ → Value → Bool
 denies name table = option_map_or is_deny (below_name name table) false
 
@@ -170,7 +170,8 @@ has_entry name table = option_map_or has_element (below_name name table) false
 abbrev pub in_bans : (Value → Bool) → Value → Bool
 in_bans test tree = option_map_or test (below_name (codes "bans") tree) false
 
--- the text of a tree writes a rule; the crate rules are written by the entries that violations name
+-- The text of a tree writes a rule, by its keys. This is asked of all rules but those on crates, whose errors are
+-- exactly the violations.
 unfoldable pub rule_is_written : Rule → Value → Bool
 rule_is_written OnCrates tree = false
 rule_is_written OnWildcards tree = in_bans (denies (codes "wildcards")) tree

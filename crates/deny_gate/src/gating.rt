@@ -342,7 +342,7 @@ pub fn gate<D: PackageFiles>(
     ensures untouched { IfErr result (λ error. error ≢ Memory → disk.new ≡ disk.old) }
     ensures later { IsLater (D.seen disk.old) (D.seen disk.new) }
 {
-    deny_spec_removal::dead_can_go();
+    deny_spec_removal::entries_can_go();
     deny_spec_removal::packages_stay();
     let mut files = Files::new(alloc);
     let policy = policy_of(alloc, inputs.policy.as_slice(), &mut files)?;

@@ -6,11 +6,11 @@ ghost use Rattle.deny_cfg.specs.PolicyView.{building_of};
 ghost use Rattle.deny_spec_report.specs.Circumstances.{Circumstances};
 ghost use Rattle.deny_spec_report.specs.Saying.{HasTable};
 ghost use Rattle.deny_spec_removal.specs.Dead.{AreAmong};
-ghost use Rattle.deny_spec_removal.specs.Removal.{EmptyNone, without_in};
+ghost use Rattle.deny_spec_removal.specs.Removal.{EmptyNone, HaveNoHit, without_in};
 ghost use Rattle.deny_spec.specs.View.{View};
 ghost use Rattle.deny_base_disk.specs.Disk.{Files};
 ghost use Rattle.deny_build_scan.specs.Failures.{failures_in};
-ghost use Rattle.deny_gate.specs.Dead.{CanDoWithoutDead, LosesOnly};
+ghost use Rattle.deny_gate.specs.Dead.{CanDoWithoutDead, CanDoWithoutUnhit, LosesOnly};
 ghost use Rattle.deny_gate.specs.Gating.{AreAlikeUnseen, AreOneCause, AreReportedAlike, AsksForTable, HasGraph};
 ghost use Rattle.deny_gate.specs.Gating.{HasPolicy, IsCause, IsReportBy, IsReportOf, InputTexts};
 ghost use Rattle.deny_gate.specs.Headline.{IsHeadlineOf};
@@ -62,9 +62,23 @@ pub fn headline()
         → IsReportOf told texts report → IsHeadlineOf texts report }
 {}
 
-/// Any of a report's dead entries can go, as long as no list of wrappers is emptied. The report of the
-/// policy without them has the same keys, except for those that name one of them as unused, and the same
-/// hits.
+/// Any entries without a hit in a report can go, reported as unused or not, as long as no list of wrappers is
+/// emptied. The report of the policy without them has the same keys with the same severities, except for those
+/// that name one of them as unused, and the same hits.
+pub fn unhit_can_go()
+    ensures texts { (told : Option Files) → (texts : InputTexts) → (report : Report)
+        → IsReportOf told texts report → CanDoWithoutUnhit told texts report }
+    ensures reports { (c : Circumstances) → (taken : List EntryId) → (report other : Report)
+        → IsReport c report → HaveNoHit report.hits taken → EmptyNone c.policy taken
+        → IsReport (without_in c taken) other → LosesOnly taken report other }
+{
+    deny_base::entry_order();
+    deny_spec_report::one_report();
+    deny_spec_removal::entries_can_go();
+    deny_spec_removal::packages_stay();
+}
+
+/// Any of a report's dead entries can go, as long as no list of wrappers is emptied: they have no hit.
 pub fn dead_can_go()
     ensures texts { (told : Option Files) → (texts : InputTexts) → (report : Report)
         → IsReportOf told texts report → CanDoWithoutDead told texts report }
@@ -72,10 +86,7 @@ pub fn dead_can_go()
         → IsReport c report → AreAmong report.dead taken → EmptyNone c.policy taken
         → IsReport (without_in c taken) other → LosesOnly taken report other }
 {
-    deny_base::entry_order();
-    deny_spec_report::one_report();
-    deny_spec_removal::dead_can_go();
-    deny_spec_removal::packages_stay();
+    unhit_can_go();
 }
 
 /// The code that a program exits with, by the counts of a report, is that of its verdict: there is one

@@ -1,4 +1,12 @@
 //! Diagnostics, trees and findings as JSON, and the lines of findings.
+//!
+//! # Choices
+//!
+//! Where a chain is long, a line nests deeper than `serde_json` reads back, so the law on lines is about the grammar of
+//! JSON, and about `serde_json` up to its depth.
+//!
+//! A finding without a code has no member `code`; clashes of a policy are reported without one, in lines of the same
+//! form.
 #![tactic(auto)]
 
 mod diagnostics;

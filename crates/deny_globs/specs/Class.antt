@@ -1,3 +1,4 @@
+-- Classes of characters: their ranges, and the characters that they take.
 use Rattle.std.specs.Prelude.{ℕ, Bool, ◌&&◌, nat_le, if◌then◌else◌, not}
 use Rattle.std.specs.List.{list_any}
 use Rattle.deny_globs.specs.declared.token.CharacterRange.{CharacterRange}

@@ -1,3 +1,4 @@
+-- Which texts fit a token, and which fit a list of tokens.
 use Rattle.std.specs.Prelude.{ℕ, List, [], ◌∷◌, ◌++◌, IsTrue}
 use Rattle.deny_globs.specs.declared.token.CharacterClass.{CharacterClass}
 use Rattle.deny_globs.specs.declared.token.Token.{Token}

@@ -252,3 +252,31 @@ first_is_simplest =
     fewest zero s at = omega (arith, ap length (ap (λ (t : DupSet). t.edges) (same_Some _ s at)))
     fewest (suc zero) s at = omega (arith, ap length (ap (λ (t : DupSet). t.edges) (same_Some _ s at)))
     fewest (suc (suc other)) s at = absurd (cc at)
+
+-- ---- two sets with as many edges
+
+abbrev tie : List DupSet
+tie = set 0 (0 ∷ []) ∷ set 1 (1 ∷ []) ∷ []
+
+-- the first is the simplest
+first_of_tie : IsSimplest tie 0
+first_of_tie =
+    record {
+      set = set 0 (0 ∷ []);
+      numbered = refl;
+      fewest = fewest;
+      first = λ other s at below. absurd (omega (arith, below));
+    }
+  where
+    fewest : (other : ℕ) (s : DupSet) → slice_get tie other ≡ Some s → 1 ≤ length s.edges
+    fewest zero s at = omega (arith, ap length (ap (λ (t : DupSet). t.edges) (same_Some _ s at)))
+    fewest (suc zero) s at = omega (arith, ap length (ap (λ (t : DupSet). t.edges) (same_Some _ s at)))
+    fewest (suc (suc other)) s at = absurd (cc at)
+
+-- and the second is not
+not_second_of_tie : IsSimplest tie 1 → ⊥
+not_second_of_tie is = omega (
+  arith,
+  is.first 0 (set 0 (0 ∷ [])) refl (omega arith),
+  ap length (ap (λ (t : DupSet). t.edges) (same_Some _ is.set is.numbered)),
+)

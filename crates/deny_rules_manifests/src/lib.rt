@@ -1,6 +1,11 @@
 //! The rules on manifests: dependencies whose requirement any version meets, crates that members declare
 //! several times and not always by the entry that the workspace shares, and shared entries that no crate
 //! comes from.
+//!
+//! # Choices
+//!
+//! The declarations that count for shared dependencies are found once, by the crates that they resolve to (`Uses`), for
+//! the keys and for what is reported of them.
 #![tactic(auto)]
 
 mod active;

@@ -174,7 +174,7 @@ fn put_use<'s, 'k>(rows: &mut Vec<List<Use<'s, 'k>>>, one: Use<'s, 'k>) -> Resul
     Ok(())
 }
 
-/// Whether a declaration does not say whether the workspace declares it.
+/// Whether a declaration has no key `workspace`.
 #[tactic(auto, unfolding(deny_spec_report::specs::Sharing::is_unshared))]
 pub fn is_unshared(one: &Use<'_, '_>) -> bool
     ensures { result ≡ is_unshared (use_view one.now) }

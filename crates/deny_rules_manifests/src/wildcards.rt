@@ -69,7 +69,7 @@ fn is_dev(kind: DepKind) -> bool
     }
 }
 
-/// Whether a declaration says that the workspace declares it.
+/// Whether a declaration has `workspace = true`: the workspace declares the dependency.
 #[tactic(auto, unfolding(deny_spec_report::specs::Wildcards::is_shared))]
 pub fn is_shared(dep: &ManifestDep<'_>) -> bool
     ensures { result ≡ is_shared (dep_view dep.now) }

@@ -71,6 +71,7 @@ impl<'k> Neighbours for DependentSteps<'k> {
         self.krates.direct_dependents(place)
     }
 
+    /// The place of the dependent.
     fn place_of(neighbour: &DirectDependent) -> u32
         ensures { result ≡ neighbour.now.place }
     {

@@ -10,6 +10,17 @@
 //! Spaces and tabs may surround each token. A text is between `"`, and has no escapes. The grammar is in the
 //! [reference of Rust](https://doc.rust-lang.org/reference/conditional-compilation.html). Nesting has no bound, and
 //! takes no stack.
+//!
+//! # Choices
+//!
+//! Space and tab may surround each token of a key, also at both ends and between `cfg` and `(`. `all`, `any` and `not`
+//! are no names; `not` takes one argument and no comma; a comma may follow the last argument of `all` and `any`, but
+//! not after the expression in `cfg(..)`. This follows the grammar of Rust's reference.
+//!
+//! A text in quotes has no escapes, and a name is of ASCII letters, digits and `_`; raw names are not read.
+//!
+//! Nesting has no bound. An expression is kept as its tokens without the commas, which determine its tree, so comparing
+//! and dropping it take no stack.
 #![tactic(auto)]
 
 mod error;

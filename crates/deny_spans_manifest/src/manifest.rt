@@ -137,6 +137,7 @@ impl<'m, 'k> Iterator for ManifestDeps<'m, 'k> {
 
     ghost remaining = { item_count deps_left };
 
+    /// The next declaration; after the last one none.
     fn next(&mut self) -> Option<&'m ManifestDep<'k>> {
         let left = self.left;
         match first_kept(left, self.ignored) {

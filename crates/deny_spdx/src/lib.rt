@@ -19,6 +19,25 @@
 //!     Ok(Some(expression.evaluate(values)))
 //! }
 //! ```
+//!
+//! # Choices
+//!
+//! A word with `+` is never an operator: `AND+` is the word `AND`. The exception after `WITH` is a word too, so its `+`
+//! is dropped as well. A `+` ends a word: `A+B` is bad at `B`, and a second `+` begins no token.
+//!
+//! Blanks are space and tab; a line end or any other byte is bad at its offset. The offset of the end of the text is
+//! its length, blanks at the end included: `MIT AND ` is bad at 8.
+//!
+//! A level of a licence's tree with one part is that part, so parentheses take no memory of their own; the truth is the
+//! same.
+//!
+//! One requirement is bad by the same law as an expression, with one requirement in its place: `A OR B` is bad at `OR`,
+//! `(A)` at 0.
+//!
+//! What one requirement's text means is a function beside the grammar's relation (`requirement_in`), since the faults
+//! of a value are computed; a clause of `Requirement::parse` ties the two. What a licence's whole text is read as is
+//! one too (`reading_in`), since the rules compute with it; a clause of `Expression::parse` and the law `one_reading`
+//! tie it to the grammar, which remains the definition. So no fact beside the circumstances says how a text is read.
 #![tactic(auto)]
 
 mod error;

@@ -12,7 +12,7 @@ use Rattle.deny_spec.specs.Groups.{has_name}
 use Rattle.deny_spec.specs.Resolution.{agreeing, resolution, suits}
 use Rattle.deny_spec.specs.declared.target_edge.TargetEdge.{TargetEdge}
 
-crate : ℕ → List ℕ → ℕ → Crate
+unfoldable pub crate : ℕ → List ℕ → ℕ → Crate
 crate place name major = record {
   place = place;
   name = name;

@@ -161,7 +161,7 @@ module _ (r : Renaming) (p : Policy) (g : Graph) where
 -- ---- wrappers
 
 module _ (r : Renaming) (p : Policy) (g : Graph) (apart : KeepsApart r p) where
-  wraps_same : (ban : Ban) (w : policy.SpannedText) (parent : Crate) → Contains p.deny ban → Contains ban.wrappers w
+  pub wraps_same : (ban : Ban) (w : policy.SpannedText) (parent : Crate) → Contains p.deny ban → Contains ban.wrappers w
       → wraps (map (renamed_text r) ban.wrappers) (renamed_text r w) parent ≡ wraps ban.wrappers w parent
   unfolding wraps wrapper_of
   wraps_same ban w parent written within = is_first_renamed (λ (v : policy.SpannedText). v.span) bears_name

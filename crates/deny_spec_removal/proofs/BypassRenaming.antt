@@ -146,7 +146,7 @@ module _ (r : Renaming) (y : Bypass) where
   leaves_same None = refl
   leaves_same (Some a) = is_some-option_map (renamed_sum r) a.checksum
 
-  hits_glob_same : (w : policy.SpannedText) (file : PackageFile)
+  pub hits_glob_same : (w : policy.SpannedText) (file : PackageFile)
       → hits_glob (renamed_bypass r y) (renamed_text r w) file ≡ hits_glob y w file
   unfolding hits_glob
   hits_glob_same w file =
@@ -170,7 +170,7 @@ PathsApart r y = (a d : AllowedPath) → Contains y.allow a → Contains y.allow
     → r.span (path_span a) ≡ r.span (path_span d) → path_span a ≡ path_span d
 
 module _ (r : Renaming) (y : Bypass) (apart : PathsApart r y) where
-  hits_path_same : (a : AllowedPath) (file : PackageFile) → Contains y.allow a
+  pub hits_path_same : (a : AllowedPath) (file : PackageFile) → Contains y.allow a
       → hits_path (renamed_bypass r y) (renamed_path r a) file ≡ hits_path y a file
   unfolding hits_path
   hits_path_same a file within = is_first_renamed path_span allows (renamed_path r) y.allow a file.path
@@ -208,7 +208,7 @@ module _ (r : Renaming) (l : Scanning) where
   unfolding is_script_ok
   ok_same c = ap (λ b. is_none (script_of c) || b) (may_have_same c)
 
-  checks_same : (c : Crate) → checks new c ≡ checks l c
+  pub checks_same : (c : Crate) → checks new c ≡ checks l c
   unfolding is_checked
   checks_same c = rw (ok_same c) refl
 
@@ -287,7 +287,7 @@ module _ (r : Renaming) (l : Scanning) where
       ∙ (ap (λ b. checks l c && (not b && not (passes_by_script new.building contents c))) (ok_same c)
       ∙ ap (λ b. checks l c && (not (is_script_ok l.building c) && not b)) (passes_same contents c))
 
-  walked_same : (contents : Package) (c : Crate)
+  pub walked_same : (contents : Package) (c : Crate)
       → is_walked new.building l.graph l.reached contents c ≡ is_walked l.building l.graph l.reached contents c
   unfolding is_walked
   walked_same contents c =
@@ -438,7 +438,7 @@ module _ (r : Renaming) (l : Scanning)
   abbrev anew : Scanning
   anew = new r l
 
-  uses_same : (y : Bypass) → Contains l.building.bypass y → (c : Crate)
+  pub uses_same : (y : Bypass) → Contains l.building.bypass y → (c : Crate)
       → uses anew.building (renamed_bypass r y) c ≡ uses l.building y c
   unfolding uses matches
   uses_same y written c = is_first_renamed bypass_span bypasses (renamed_bypass r) l.building.bypass y c

@@ -29,7 +29,7 @@ use Rattle.deny_spec_removal.proofs.FirstMatch.{first_anew, is_first_renamed}
 -- ---- a policy that checks replaced crates
 
 module _ (r : Renaming) (s : Replacing) (g : Graph) (said : Saying) where
-  replaced_same : (c : Crate) → is_replaced (renamed_replacing r s) g said c ≡ is_replaced s g said c
+  pub replaced_same : (c : Crate) → is_replaced (renamed_replacing r s) g said c ≡ is_replaced s g said c
   unfolding is_replaced may_replace satisfies counting_version
   replaced_same c = refl
 
@@ -54,7 +54,7 @@ module _ (r : Renaming) (s : Replacing) (g : Graph) (said : Saying) where
 module _ (r : Renaming) (s : Replacing) (g : Graph) (said : Saying)
     (apart : (d e : Entry) → Contains s.ignore d → Contains s.ignore e
     → r.span (ignore_span d) ≡ r.span (ignore_span e) → ignore_span d ≡ ignore_span e) where
-  first_same : (e : Entry) (c : Crate) → Contains s.ignore e
+  pub first_same : (e : Entry) (c : Crate) → Contains s.ignore e
       → is_first ignore_span ignores (map (renamed_entry r) s.ignore) (renamed_entry r e) c
       ≡ is_first ignore_span ignores s.ignore e c
   unfolding matches

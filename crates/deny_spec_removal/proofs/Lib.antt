@@ -10,6 +10,8 @@ pub mod DeadLemmas
 pub mod FeatureRemoval
 pub mod FeatureRenaming
 pub mod FirstMatch
+pub mod HitRemoval
+pub mod HitRenaming
 pub mod IgnoreCases
 pub mod IgnoreRemoval
 pub mod IgnoreRenaming

@@ -189,14 +189,14 @@ module _ (counts : Crate → Bool) (l : Licensing) (g : Graph) (taken : List Ent
 
   -- ---- which entries are hit
 
-  by_exception_same : (e : Exception) (c : Crate) (asked : Asked) → Contains g.crates c
+  pub by_exception_same : (e : Exception) (c : Crate) (asked : Asked) → Contains g.crates c
       → is_scanned counts l c ≡ true → Contains (asked_in c) asked
       → grants_by_exception rest e asked ≡ grants_by_exception l e asked
   unfolding grants_by_exception
   by_exception_same e c asked known scan of = is_first_stays exception_span excepts (stays_exception taken)
       l.exceptions e asked (λ x is. exception_stays c asked x known scan of is)
 
-  by_allowance_same : (a : Spanned Requirement) (c : Crate) (asked : Asked) → Contains g.crates c
+  pub by_allowance_same : (a : Spanned Requirement) (c : Crate) (asked : Asked) → Contains g.crates c
       → is_scanned counts l c ≡ true → Contains (asked_in c) asked
       → grants_by_allowance rest a asked ≡ grants_by_allowance l a asked
   unfolding grants_by_allowance

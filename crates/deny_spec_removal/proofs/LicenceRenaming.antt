@@ -137,14 +137,14 @@ module _ (r : Renaming) (l : Licensing) (g : Graph) (counts : Crate → Bool) wh
 
 module _ (r : Renaming) (l : Licensing) (g : Graph) (counts : Crate → Bool)
     (apart : KeepsLicencesApart r (Some l)) where
-  by_exception_same : (e : Exception) → Contains l.exceptions e → (asked : Asked)
+  pub by_exception_same : (e : Exception) → Contains l.exceptions e → (asked : Asked)
       → grants_by_exception (renamed_licensing r l) (renamed_exception r e) asked ≡ grants_by_exception l e asked
   unfolding grants_by_exception
   by_exception_same e written asked = is_first_renamed exception_span excepts (renamed_exception r) l.exceptions e
       asked (λ d is. excepts_same r d asked) (λ d is same. apart.exceptions l refl d e is written same)
       (λ d same. ap r.span same)
 
-  by_allowance_same : (a : Spanned Requirement) → Contains l.allow a → (asked : Asked)
+  pub by_allowance_same : (a : Spanned Requirement) → Contains l.allow a → (asked : Asked)
       → grants_by_allowance (renamed_licensing r l) (renamed_allowance r a) asked ≡ grants_by_allowance l a asked
   unfolding grants_by_allowance allows
   by_allowance_same a written asked =

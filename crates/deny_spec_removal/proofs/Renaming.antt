@@ -35,6 +35,7 @@ use Rattle.deny_spec_removal.proofs.Anew.{AreAnew, keys_anew, keys_same, made_ba
 use Rattle.deny_spec_removal.proofs.BanRenaming as bans
 use Rattle.deny_spec_removal.proofs.BypassRenaming as bypasses
 use Rattle.deny_spec_removal.proofs.FeatureRenaming as features
+use Rattle.deny_spec_removal.proofs.HitRenaming as hits
 use Rattle.deny_spec_removal.proofs.IgnoreRenaming as ignores
 use Rattle.deny_spec_removal.proofs.LicenceRenaming as licences
 use Rattle.deny_spec_removal.proofs.SkipRenaming as skips
@@ -230,4 +231,6 @@ module _ (r : Renaming) (c : Circumstances) (these those : Facts) (are : AreFact
     sound = λ key is. back_key r c these those are are_new apart apart_too bypasses_apart key is;
     hits = hits_anew;
     licence_hits = λ counts. licences.licensed_hits r c.licensing c.graph counts apart_too;
+    whole_hits = λ counts e w is. hits.hit_there r c these those are are_new apart apart_too bypasses_apart counts e w is;
+    sound_hits = λ counts e w is. hits.hit_back r c these those are are_new apart apart_too bypasses_apart counts e w is;
   }

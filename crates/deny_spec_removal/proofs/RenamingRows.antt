@@ -6,14 +6,14 @@ use Rattle.deny_base.specs.declared.level.LintLevel.TheVariants.{Warn}
 use Rattle.deny_spec.specs.Keys.{crate_key, dependent_key, key_of, no_span, unused_key}
 use Rattle.deny_spec.specs.Licensing.{Licensing}
 use Rattle.deny_spec.specs.Match.{matches}
-use Rattle.deny_spec.specs.Policy.{FeatureEntry, Policy}
+use Rattle.deny_spec.specs.Policy.{AllowEntry, Ban, Entry, FeatureEntry, Policy, Root}
 use Rattle.deny_spec_report.specs.Features.{is_enabled, is_mismatch_reported, is_mismatched, mismatched_keys}
 use Rattle.deny_spec_report.specs.Features.{mismatched_keys_of}
 use Rattle.deny_spec_report.specs.Features.{missing, unlisted}
 use Rattle.deny_spec_report.specs.Licences.{exception_not_encountered_keys, licence_hits, not_encountered_keys}
 use Rattle.deny_spec_report.specs.Wildcards.{unresolved_keys}
 use Rattle.deny_spec_report.proofs.Cases.{all_count, allow_at, app, ban_at, ban_keys, bans_on_cases, by_two, on_cases}
-use Rattle.deny_spec_report.proofs.Cases.{one_x, plain, span, spec_at, spanned_at}
+use Rattle.deny_spec_report.proofs.Cases.{entry_at, one_x, plain, root_of, span, spec_at, spanned_at}
 use Rattle.deny_spec_report.proofs.LicenceRows.{allowed_at, alone, every, exception_at, excepted_by, gpl, granting}
 use Rattle.deny_spec_report.proofs.LicenceRows.{hit_by}
 use Rattle.deny_spec_report.proofs.LicenceRows.{licences_on_cases, mit, unmet, unmet_exception}
@@ -87,6 +87,48 @@ first_hit = refl
 ignores_not_apart : hits_by (renamed all_at_once two_ignores) ≡ hit_by_x (span 7) ∷ hit_by_x (span 7) ∷ []
 unfolding ignores_on_cases all_at_once
 ignores_not_apart = refl
+
+-- ---- bans, allowances, skips and trees: an entry, its reason and what to use instead have a span each
+
+unfoldable moved_on : Renaming
+moved_on = record farther { number = λ n. n + 7 }
+
+ban_with : ℕ → Ban
+ban_with start = record (ban_at (codes "x") (spanned_at (codes "w") (start + 1) ∷ []) start) {
+  reason = Some (spanned_at (codes "old") (start + 2));
+  use_instead = Some (spanned_at (codes "y") (start + 3));
+}
+
+allowance_with : ℕ → AllowEntry
+allowance_with start = record (allow_at (codes "x") start) { reason = Some (spanned_at (codes "new") (start + 2)) }
+
+skip_with : ℕ → Entry
+skip_with start = record (entry_at (codes "x") start) { reason = Some (spanned_at (codes "late") (start + 2)) }
+
+root_with : ℕ → ℕ → Root
+root_with number start = record (root_of (codes "x") start) {
+  number = number;
+  depth = Some 3;
+  reason = Some (spanned_at (codes "big") (start + 2));
+}
+
+unfoldable with_reasons : ℕ → Policy
+with_reasons start = record plain {
+  deny = ban_with start ∷ ban_at (codes "z") [] (start + 10) ∷ [];
+  deny_multiple = spec_at (codes "x") start ∷ [];
+  allow = allowance_with start ∷ allow_at (codes "z") (start + 10) ∷ [];
+  skip = skip_with start ∷ entry_at (codes "z") (start + 10) ∷ [];
+}
+
+reasons_farther : renamed farther (with_reasons 20) ≡ with_reasons 120
+unfolding on_cases ban_with allowance_with skip_with with_reasons farther
+reasons_farther = refl
+
+-- a tree gets a new number besides, and keeps its depth
+trees_farther : (renamed moved_on (record plain { skip_tree = root_with 1 20 ∷ root_of (codes "z") 30 ∷ [] })).skip_tree
+    ≡ root_with 8 120 ∷ record (root_of (codes "z") 130) { number = 7 } ∷ []
+unfolding on_cases root_with farther moved_on
+trees_farther = refl
 
 -- ---- features: the lists, their texts and the flag whether they are exact have spans of their own
 

@@ -64,7 +64,7 @@ module _ (r : Renaming) (p : Policy) (g : Graph) (these those : chains.Facts) (a
     (are_new : chains.AreFacts (renamed r p) g those) where
   -- ---- facts
 
-  counts_same : (k : Crate) → Contains g.crates k → those.counts k ≡ these.counts k
+  pub counts_same : (k : Crate) → Contains g.crates k → those.counts k ≡ these.counts k
   counts_same k known = same_test (those.counts k) (these.counts k) (are_new.counts k known) (are.counts k known)
 
   in_tree_same : (t : Root) (k : Crate) → Contains p.skip_tree t → Contains g.crates k

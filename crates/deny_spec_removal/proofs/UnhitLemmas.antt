@@ -314,7 +314,7 @@ of_bans c facts counts taken none = λ e is h hit. none e is h
     (Contains-append_left (hits_in c facts) (licence_hits_in counts c) h hit)
 
 -- no entry that goes has a hit of the licence check
-of_licences : (c : Circumstances) (facts : Facts) (counts : Crate → Bool) (taken : List EntryId)
+pub of_licences : (c : Circumstances) (facts : Facts) (counts : Crate → Bool) (taken : List EntryId)
     → HaveNoHit (both_hits c facts counts) taken → HaveNoHit (licence_hits_in counts c) taken
 of_licences c facts counts taken none = λ e is h hit. none e is h
     (Contains-append_right (hits_in c facts) (licence_hits_in counts c) h hit)
@@ -326,7 +326,7 @@ module _ (exact : IsAntisymmetric entry_cmp) (counts : Crate → Bool) (l : Lice
   stays_where kind span h hit is = ap (λ b. not b)
       (not_taken exact taken kind span (λ gone. none (entry kind span) gone h hit is))
 
-  stay_by : LicencesStay counts l g taken
+  pub stay_by : LicencesStay counts l g taken
   stay_by = record {
     allowances = λ a written hit. let of = hit_of_allowance counts l g a hit in
         stays_where LicenseAllow (allowance_span a) of.hit

@@ -1,5 +1,5 @@
 -- Removal of entries of any kind from a policy, and its result.
-use Rattle.std.specs.Prelude.{◌≡◌, ◌≢◌, Bool, false, not, List, Contains, filter, map}
+use Rattle.std.specs.Prelude.{◌≡◌, ◌≢◌, ◌↔◌, Bool, false, not, List, Contains, filter, map}
 use Rattle.std.specs.Prelude.{option_map}
 use Rattle.std.specs.List.{list_any}
 use Rattle.std.specs.Option.{option_map_or}
@@ -15,6 +15,7 @@ use Rattle.deny_base.specs.declared.entry.EntryKind.TheVariants as kind
 use Rattle.deny_base.specs.declared.entry.EntryKind.TheVariants.{LicenseAllow, LicenseException, ReplacementIgnore}
 use Rattle.deny_base.specs.declared.entry.EntryKind.TheVariants.{Skip, SkipRoot, Wrapper}
 use Rattle.deny_base.specs.declared.entry.Hit.{Hit}
+use Rattle.deny_base.specs.declared.entry.Witness.{Witness}
 use Rattle.deny_base.specs.declared.key.Key.{Key}
 use Rattle.deny_base.specs.declared.span.Span.{Span}
 use Rattle.deny_base.specs.declared.span.Spanned.{Spanned}
@@ -29,6 +30,7 @@ use Rattle.deny_spec_report.specs.BuildScripts.{bypass_span}
 use Rattle.deny_spec_report.specs.Circumstances.{Circumstances}
 use Rattle.deny_spec_report.specs.Facts.{Facts, AreFacts}
 use Rattle.deny_spec_report.specs.Hits.{TestsLicensed, both_hits, hits_in, licence_hits_in}
+use Rattle.deny_spec_report.specs.Hitting.{IsHit}
 use Rattle.deny_spec_report.specs.Licences.{allowance_span, exception_span}
 use Rattle.deny_spec_report.specs.PackageFiles.{path_span}
 use Rattle.deny_spec_report.specs.Holding.{Holds}
@@ -146,10 +148,16 @@ pub record AreGone (c rest : Circumstances) (facts : Facts) (taken : List EntryI
   pub licence_hits : (counts : Crate → Bool) → TestsLicensed c.licensing c.graph counts
       → licence_hits_in counts rest ≡ licence_hits_in counts c
 
--- ---- the law
+-- ---- the laws
 
 abbrev pub EntriesCanGo : Type 0
 EntriesCanGo = (c : Circumstances) → (facts : Facts) → (counts : Crate → Bool) → (taken : List EntryId)
     → (keys : List Key) → AreFacts c facts → TestsLicensed c.licensing c.graph counts
     → HaveNoHit (both_hits c facts counts) taken → EmptyNone c.policy taken
     → Lists key_cmp (Holds c facts) keys → AreGone c (without_in c taken) facts taken keys
+
+-- in the rest each witness hits the entries that it hit before, and no others
+abbrev pub HitsStay : Type 0
+HitsStay = (c : Circumstances) → (facts : Facts) → (counts : Crate → Bool) → (taken : List EntryId)
+    → HaveNoHit (both_hits c facts counts) taken → (e : EntryId) → (w : Witness)
+    → IsHit (without_in c taken) facts counts e w ↔ IsHit c facts counts e w

@@ -4,6 +4,7 @@ use Rattle.deny_base.specs.Code.{has_entry}
 use Rattle.deny_base.specs.declared.code.DiagnosticCode.{DiagnosticCode}
 use Rattle.deny_base.specs.declared.entry.EntryId.{EntryId}
 use Rattle.deny_base.specs.declared.entry.Hit.{Hit}
+use Rattle.deny_base.specs.declared.entry.Witness.{Witness}
 use Rattle.deny_base.specs.declared.key.Key.{Key}
 use Rattle.deny_base.specs.declared.level.LintLevel.{LintLevel}
 use Rattle.deny_base.specs.declared.span.Span.{Span}
@@ -18,6 +19,7 @@ use Rattle.deny_spec_report.specs.BuildScripts.{bypass_span}
 use Rattle.deny_spec_report.specs.Circumstances.{Circumstances}
 use Rattle.deny_spec_report.specs.Facts.{Facts, AreFacts}
 use Rattle.deny_spec_report.specs.Hits.{hits_in, licence_hits_in}
+use Rattle.deny_spec_report.specs.Hitting.{IsHit}
 use Rattle.deny_spec_report.specs.Licences.{allowance_span, exception_span}
 use Rattle.deny_spec_report.specs.PackageFiles.{path_span}
 use Rattle.deny_spec_report.specs.Holding.{Holds}
@@ -181,6 +183,11 @@ pub record AreRenamed (r : Renaming) (c : Circumstances) (these those : Facts) :
   pub hits : hits_in (renamed_in r c) those ≡ map (renamed_hit r) (hits_in c these)
   pub licence_hits : (counts : Crate → Bool)
       → licence_hits_in counts (renamed_in r c) ≡ map (renamed_hit r) (licence_hits_in counts c)
+  -- each witness hits the entries that it hit before, with their new spans, and no others
+  pub whole_hits : (counts : Crate → Bool) → (e : EntryId) → (w : Witness)
+      → IsHit c these counts e w → IsHit (renamed_in r c) those counts (renamed_id r e) w
+  pub sound_hits : (counts : Crate → Bool) → (e : EntryId) → (w : Witness) → IsHit (renamed_in r c) those counts e w
+      → (old : EntryId) × IsHit c these counts old w × (e ≡ renamed_id r old)
 
 -- ---- the law
 

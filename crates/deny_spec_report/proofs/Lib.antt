@@ -9,6 +9,10 @@ pub mod CountingRows
 pub mod DuplicateRows
 pub mod EachCode
 pub mod FeatureRows
+pub mod FirstHits
+pub mod HitRows
+pub mod HittingLemmas
+pub mod HittingRows
 pub mod Joined
 pub mod Kept
 pub mod KeyRows

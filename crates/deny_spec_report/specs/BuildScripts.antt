@@ -44,9 +44,9 @@ is_active level.Allow = false
 is_active level.Warn = true
 is_active level.Deny = true
 
--- a crate is checked that has a script which it may not have, or any crate where the level of executables is active;
--- it is no member, unless members are checked too; and it executes at build time, or it is reached from a crate that
--- does where such dependencies are checked too, by the test of what is reached
+-- The build check looks at a crate under three conditions: it has a build script that it may not have, or executables
+-- are looked for at an active level; it is no member of the workspace, or members are checked too; and it executes at
+-- build time, or a crate that does needs it (by the test of what is reached) and such dependencies are checked too.
 unfoldable pub is_checked : Building → Graph → (Crate → Bool) → Crate → Bool
 is_checked b g reached c = (not (is_script_ok b c) || is_active b.executables)
     && ((not (is_member g c) || b.with_workspace)

@@ -1,11 +1,11 @@
--- Which keys ask nothing of files, and which check a section belongs to.
+-- Which keys need no manifest and no package, and which check a section belongs to.
 use Rattle.std.specs.Prelude.{Bool, true, false, List, filter}
 use Rattle.deny_base.specs.Code.{asks_no_file}
 use Rattle.deny_base.specs.declared.key.Key.{Key}
 use Rattle.deny_base.specs.declared.key.Section.{Section}
 use Rattle.deny_base.specs.declared.key.Section.TheVariants as section
 
--- the keys whose codes ask nothing of files
+-- the keys whose codes need no manifest and no package: they hold on a disk of which nothing is known
 abbrev pub unseeing : List Key → List Key
 unseeing keys = filter (λ key. asks_no_file key.code) keys
 

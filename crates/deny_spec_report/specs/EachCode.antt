@@ -123,7 +123,7 @@ message_as code.UnusedWorkspaceDependency c key = unused_entry_diag c.policy c.v
 message_as code.ReplacedInStd c key = replaced_diag_in c key
 message_as code.UnmatchedReplacementIgnore c key = unmatched_ignore_diag_in c key
 
--- when a key of a code of the licence check holds; it asks nothing of files
+-- when a key of a code of the licence check holds; the check reads no files
 abbrev pub LicenseHolds : LicenseCode → Option Licensing → Graph → Key → Type 0
 LicenseHolds license.Accepted licensing g key = IsOfLicences accepted_keys licensing g key
 LicenseHolds license.Rejected licensing g key = IsOfLicences rejected_keys licensing g key

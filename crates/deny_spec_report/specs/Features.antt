@@ -66,12 +66,13 @@ default_level p g c = if is_member g c then p.workspace_default else p.external_
 unfoldable pub names_feature : List policy.SpannedText → List ℕ → Bool
 names_feature texts feature = list_any (λ w. same_text w.value feature) texts
 
--- an entry that matches the crate and is not exact names `default` in neither list
+-- the entry matches the crate and says nothing of `default`: it is not exact, and neither of its lists names it
 unfoldable pub leaves_default : Crate → FeatureEntry → Bool
 leaves_default c e = matches e.spec c && (not e.exact.value
     && (not (names_feature e.allow.value default_feature) && not (names_feature e.deny default_feature)))
 
--- `default` is checked at level warn; at level deny where no entry matches the crate, or one leaves `default` open
+-- whether the feature `default` of a crate is reported at a level: at allow never, at warn always, and at deny where no
+-- entry matches the crate, or one that matches says nothing of `default`
 unfoldable pub checks_default : Policy → Crate → LintLevel → Bool
 checks_default p c level.Allow = false
 checks_default p c level.Warn = true
@@ -90,16 +91,17 @@ default_enabled_keys_at p g c = option_map_or (default_enabled_keys_of p c) (def
 
 -- ---- entries that match a crate
 
--- `default` is checked by its level alone where the policy gives one that does not deny
+-- the level is deny
 abbrev pub denies : LintLevel → Bool
 denies level.Allow = false
 denies level.Warn = false
 denies level.Deny = true
 
+-- `default` is left to its own level: the policy gives one, and it is not deny
 unfoldable pub has_default_apart : Policy → Graph → Crate → Bool
 has_default_apart p g c = option_map_or (λ at. not (denies at.value)) (default_level p g c) false
 
--- an entry does not allow a feature that is not left to the level of `default`
+-- an entry does not allow the feature; `default` is not asked for where it is left to its own level
 unfoldable pub is_unlisted : Policy → Graph → FeatureEntry → Crate → List ℕ → Bool
 is_unlisted p g e c feature = not (names_feature e.allow.value feature)
     && not (same_text feature default_feature && has_default_apart p g c)

@@ -19,7 +19,7 @@ HoldsBy (License code) c facts key = LicenseHolds code c.licensing c.graph key
 abbrev pub Holds : Circumstances → Facts → Key → Type 0
 Holds c facts key = HoldsBy key.code c facts key
 
--- a key holds and is in a section of one check
+-- a key holds, and is in a section of the check whose sections pass this test
 abbrev pub HoldsIn : (Section → Bool) → Circumstances → Facts → Key → Type 0
 HoldsIn mine c facts key = IsTrue (mine key.section) × Holds c facts key
 
@@ -33,7 +33,7 @@ pub record AreKeys (c : Circumstances) (keys : List Key) : Type 0 where
   pub true_facts : AreFacts c facts
   pub listed : Lists key_cmp (Holds c facts) keys
 
--- these are the keys of one check by true facts
+-- these are the keys of one check: all that hold in its sections by true facts, ascending, each once
 pub record AreOwnKeys (mine : Section → Bool) (c : Circumstances) (keys : List Key) : Type 0 where
   pub facts : Facts
   pub true_facts : AreFacts c facts

@@ -10,6 +10,7 @@ pub mod Facts
 pub mod Features
 pub mod FirstMatch
 pub mod Hits
+pub mod Hitting
 pub mod Holding
 pub mod Licences
 pub mod Members

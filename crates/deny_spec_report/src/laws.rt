@@ -16,17 +16,19 @@ ghost use Rattle.deny_spec_report.specs.Circumstances.{Circumstances, licensed, 
 ghost use Rattle.deny_spec_report.specs.Codes.{is_of_bans, is_of_licenses, unseeing};
 ghost use Rattle.deny_spec_report.specs.Facts.{Facts};
 ghost use Rattle.deny_spec_report.specs.FirstMatch.{first_of, is_first};
+ghost use Rattle.deny_spec_report.specs.Hitting.{HitsAreFirst};
 ghost use Rattle.deny_spec_report.specs.Holding.{AreKeys, AreOwnKeys, ListsOwn, Holds, HoldsIn};
 ghost use Rattle.deny_spec_report.specs.Diags.{key_pack, key_message};
 
-/// Circumstances have one report: two lists of their keys are equal.
+/// The circumstances of a report determine its keys: two lists of all keys that hold, ascending, are equal.
 pub fn one_report()
     ensures { (c : Circumstances) → (xs ys : List Key) → AreKeys c xs → AreKeys c ys → xs ≡ ys }
 {
     deny_base::key_order();
 }
 
-/// The sections of one check have one list of keys in circumstances.
+/// Circumstances determine the keys of one check: two lists of all keys that hold in its sections,
+/// ascending, are equal.
 pub fn one_check()
     ensures { (mine : Section → Bool) → (c : Circumstances) → (xs ys : List Key)
         → AreOwnKeys mine c xs → AreOwnKeys mine c ys → xs ≡ ys }
@@ -34,7 +36,8 @@ pub fn one_check()
     deny_base::key_order();
 }
 
-/// The keys whose codes ask nothing of files hold whatever was read of manifests and packages.
+/// Other manifests and packages change no key whose code needs none of them: in circumstances that
+/// differ in these alone, the same keys of such codes hold.
 pub fn one_unseen()
     ensures { (c : Circumstances) → (view : View) → (packages : List Package) → (xs ys : List Key)
         → AreKeys c xs → AreKeys (seen_anew c view packages) ys → unseeing xs ≡ unseeing ys }
@@ -42,21 +45,23 @@ pub fn one_unseen()
     deny_base::key_order();
 }
 
-/// The message of a code that asks nothing of files is the same whatever was read of manifests and packages.
+/// Other manifests and packages do not change the message of a key whose code needs none of them.
 pub fn message_unseen()
     ensures { (c : Circumstances) → (view : View) → (packages : List Package) → (key : Key)
         → IsTrue (asks_no_file key.code)
         → key_message (seen_anew c view packages) key ≡ key_message c key }
 {}
 
-/// The keys of the bans check and after them those of the licence check are all keys that hold.
+/// The keys that hold in the sections of the bans check, followed by those that hold in the sections of the
+/// licence check, are all keys that hold, in order.
 pub fn joined_keys()
     ensures { (c : Circumstances) → (facts : Facts) → (xs ys : List Key)
         → ListsOwn is_of_bans c facts xs → ListsOwn is_of_licenses c facts ys
         → Lists key_cmp (Holds c facts) (xs ++ ys) }
 {}
 
-/// The keys of the bans check and their packs do not depend on what a policy says of licences.
+/// What a policy says of licences changes nothing in the bans check: the same keys hold in its sections
+/// (`holds`), and each is reported by the same pack (`reported`).
 pub fn bans_unlicensed()
     ensures holds { (c : Circumstances) → (licensing : Option Licensing) → (facts : Facts) → (keys : List Key)
         → ListsOwn is_of_bans c facts keys → ListsOwn is_of_bans (licensed c licensing) facts keys }
@@ -64,10 +69,17 @@ pub fn bans_unlicensed()
         → HoldsIn is_of_bans c facts key → key_pack (licensed c licensing) key ≡ key_pack c key }
 {}
 
-/// The wrapper of a crate is the first with the crate's name, and a wrapper wraps the crate where it is that one.
+/// The wrapper of a ban that lets a dependent pass is the first with the dependent's name: a wrapper wraps
+/// the dependent exactly where that first one has its span.
 pub fn first_wrapper()
     ensures { (wrappers : List policy.SpannedText) → (w : policy.SpannedText) → (parent : Crate)
         → (wrapper_of wrappers parent ≡ first_of bears_name wrappers parent)
         × (wraps wrappers w parent
         ≡ is_first (λ (first : policy.SpannedText). first.span) bears_name wrappers w parent) }
+{}
+
+/// The hits of a report are those of entries that a witness hits, each by its first witness: the first crate in the
+/// graph's order, and for one crate the first dependent, or the first file of its package.
+pub fn first_hits()
+    ensures { HitsAreFirst }
 {}

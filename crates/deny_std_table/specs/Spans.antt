@@ -1,3 +1,4 @@
+-- Spans of a table, and their bytes.
 use Rattle.std.specs.Prelude.{ℕ, List, take, drop}
 use Rattle.deny_std_table.specs.declared.spans.TextSpan.{TextSpan}
 

@@ -19,6 +19,30 @@
 //!     Ok(table.entry(name).is_some())
 //! }
 //! ```
+//!
+//! # Choices
+//!
+//! The version of a table is how many bytes the length of a text has. The width is one parameter of the whole reading,
+//! and a table keeps it beside its bytes.
+//!
+//! Nothing is copied or kept beside the bytes: an entry's items are read again as they are asked for, which is proved
+//! to find what the first reading found. So reading takes no memory.
+//!
+//! In an entry the name is read first, then compared with the name before, then the rest is read. Bytes between the
+//! offsets and the first entry, and after an entry's last item, are ignored. An entry without items and an empty name
+//! are allowed.
+//!
+//! `next` is a method of `ReplacementIter`; callers loop with `while let`.
+//!
+//! `upgrade` gives the bytes that names, numbers and items determine, whichever version the table has, so to upgrade
+//! twice changes nothing.
+//!
+//! `upgrade` reads the table once more and writes two texts, since an offset is known only when all entries before it
+//! are written: the head with the offsets, and the entries. At the end the second is put after the first, so for a
+//! moment the entries take their memory twice.
+//!
+//! `upgrade` goes on counting where memory runs out, so `Long` comes exactly where the bytes would be 2^28 or more, and
+//! `Memory` only where they would be fewer. Once there are 2^28 no more are kept.
 #![tactic(auto)]
 
 mod cursor;

@@ -1,4 +1,7 @@
 //! What is shown of duplicates.
+ghost use Rattle.std.specs.Prelude.{◌<◌, ◌^◌, length};
+
+use crate::graphs::TWO_X;
 use crate::krates::built;
 use deny_base::{Code, DepKind, DiagnosticCode, Edge, Files, Key, Section, Span};
 use deny_base_lists::{List, NoMemory, Text};
@@ -21,14 +24,14 @@ const GRAPH: &str = "{\"packages\":[\
 
 const POLICY: &[u8] = b"[bans]\nmultiple-versions = \"deny\"\nhighlight = \"all\"\n";
 
-// The key of the two versions of `c`.
-fn duplicate(alloc: Global) -> Result<Key, NoMemory> {
+// The key of the two versions of a crate, whose places follow each other.
+fn duplicate(alloc: Global, first: u32, second: u32) -> Result<Key, NoMemory> {
     let mut places = List::new(alloc);
-    places.push(2)?;
-    places.push(3)?;
+    places.push(first)?;
+    places.push(second)?;
     Ok(Key {
         section: Section::Groups,
-        place: 2,
+        place: first,
         code: DiagnosticCode::Bans(Code::Duplicate),
         entry: Span { start: 0, end: 0 },
         text: Text::new(alloc),
@@ -37,25 +40,46 @@ fn duplicate(alloc: Global) -> Result<Key, NoMemory> {
     })
 }
 
-fn edges_in(alloc: Global, cfg: &ValidConfig, krates: &Krates) -> Result<List<DupEdges>, NoMemory> {
-    let keys = [duplicate(alloc)?];
+fn edges_in(
+    alloc: Global,
+    cfg: &ValidConfig,
+    krates: &Krates,
+    key: Key,
+) -> Result<List<DupEdges>, NoMemory> {
+    let keys = [key];
     dup_edges_of(alloc, cfg, krates, &keys)
 }
 
-fn edges_by_policy(alloc: Global, cfg: &ValidConfig) -> Result<List<DupEdges>, NoMemory> {
-    match built(alloc, GRAPH) {
-        Ok(krates) => edges_in(alloc, cfg, &krates),
+fn edges_by_policy(
+    alloc: Global,
+    cfg: &ValidConfig,
+    graph: &str,
+    key: Key,
+) -> Result<List<DupEdges>, NoMemory> {
+    match built(alloc, graph) {
+        Ok(krates) => edges_in(alloc, cfg, &krates, key),
         Err(_) => Ok(List::new(alloc)),
     }
 }
 
 // The edges that are shown, apart from all else, so that no test holds a policy or a graph.
-fn edges_shown(alloc: Global) -> Result<List<DupEdges>, NoMemory> {
+fn edges_shown(
+    alloc: Global,
+    policy: &'static [u8],
+    graph: &str,
+    key: Key,
+) -> Result<List<DupEdges>, NoMemory>
+    requires { length policy.now < 2 ^ 28 }
+{
     let mut files = Files::new(alloc);
-    match read_policy(alloc, POLICY, &mut files) {
-        Ok(policy) => edges_by_policy(alloc, &policy.bans),
+    match read_policy(alloc, policy, &mut files) {
+        Ok(policy) => edges_by_policy(alloc, &policy.bans, graph, key),
         Err(_) => Ok(List::new(alloc)),
     }
+}
+
+fn edges_of_both(alloc: Global) -> Result<List<DupEdges>, NoMemory> {
+    edges_shown(alloc, POLICY, GRAPH, duplicate(alloc, 2, 3)?)
 }
 
 fn edge(parent: u32, child: u32, kind: DepKind) -> Edge {
@@ -92,14 +116,37 @@ fn is_shown(shown: &DupEdges) -> bool {
 
 #[test]
 fn edges_ascend_by_parent_child_and_kind(rt: HostRuntime) -> Result<(), NoMemory> {
-    let edges = edges_shown(rt.alloc())?;
+    let edges = edges_of_both(rt.alloc())?;
     assert!(rt; matches!(edges.as_slice(), [shown] if are_in_order(shown)));
     Ok(())
 }
 
 #[test]
 fn a_set_has_the_edges_above_its_crate(rt: HostRuntime) -> Result<(), NoMemory> {
-    let edges = edges_shown(rt.alloc())?;
+    let edges = edges_of_both(rt.alloc())?;
     assert!(rt; matches!(edges.as_slice(), [shown] if is_shown(shown) && are_sets(shown)));
+    Ok(())
+}
+
+// ---- the simplest path to one of two versions of `x`, each of which `app` needs
+
+const SIMPLEST: &[u8] = b"[bans]\nmultiple-versions = \"deny\"\nhighlight = \"simplest-path\"\n";
+
+// The edges from `app` to each version, each in a set of its own.
+fn has_edge_each(shown: &DupEdges) -> bool {
+    let wanted = [edge(0, 1, DepKind::Normal), edge(0, 2, DepKind::Normal)];
+    shown.edges.as_slice() == wanted.as_slice()
+        && matches!(shown.sets.as_slice(), [one, two] if is_set(one, 1, &[0]) && is_set(two, 2, &[1]))
+}
+
+// Of sets with as many edges the first is the simplest.
+fn has_first(shown: &DupEdges) -> bool {
+    shown.name.as_str() == "x" && shown.simplest == Some(0) && shown.lowest.is_none()
+}
+
+#[test]
+fn of_sets_with_as_many_edges_the_first_is_the_simplest(rt: HostRuntime) -> Result<(), NoMemory> {
+    let edges = edges_shown(rt.alloc(), SIMPLEST, TWO_X, duplicate(rt.alloc(), 1, 2)?)?;
+    assert!(rt; matches!(edges.as_slice(), [shown] if has_edge_each(shown) && has_first(shown)));
     Ok(())
 }

@@ -10,6 +10,14 @@ mod dup_edges;
 #[cfg(test)]
 mod examples;
 #[cfg(test)]
+mod files;
+#[cfg(test)]
+mod globs;
+#[cfg(test)]
+mod graphs;
+#[cfg(test)]
+mod json;
+#[cfg(test)]
 mod krates;
 #[cfg(test)]
 mod listing;
@@ -20,6 +28,12 @@ mod outside;
 #[cfg(test)]
 mod policy;
 #[cfg(test)]
+mod replaced;
+#[cfg(test)]
+mod spans;
+#[cfg(test)]
 mod toml;
+#[cfg(test)]
+mod trees;
 #[cfg(test)]
 mod walking;

@@ -1,6 +1,6 @@
 //! What disks list, and calls that fail by their numbers.
 use crate::outside::put;
-use deny_base_disk::{Entry, MemoryDisk, PackageFiles, RealDisk, SureDisk};
+use deny_base_disk::{Entry, MemoryDisk, PackageFiles, RealDisk, SureDisk, read_whole};
 use deny_base_lists::{NoMemory, Text};
 use std::alloc::Global;
 use std::fs;
@@ -70,15 +70,19 @@ fn a_sure_disk_lists_what_is_not_there(rt: HostRuntime) {
     assert!(rt; lists(rt.alloc(), &mut disk, "/ws", ""));
 }
 
+/// Names that begin with a dot stand before others.
 fn make_folder(rt: &HostRuntime) -> bool {
     fs::create_dir_all(rt, "listed/b/c").is_ok()
+        && fs::create_dir_all(rt, "listed/.d").is_ok()
+        && fs::write(rt, "listed/.e", "").is_ok()
+        && fs::write(rt, "listed/..f", "").is_ok()
         && fs::write(rt, "listed/b-e", "").is_ok()
         && fs::write(rt, "listed/a", "").is_ok()
 }
 
 fn lists_made(rt: &HostRuntime) -> bool {
     let mut disk = RealDisk::new(rt);
-    lists(rt.alloc(), &mut disk, "listed", "a b/ b-e ")
+    lists(rt.alloc(), &mut disk, "listed", "..f .d/ .e a b/ b-e ")
         && lists(rt.alloc(), &mut disk, "listed/b/c", "")
         && lists(rt.alloc(), &mut disk, "listed/n", "?")
 }
@@ -89,4 +93,36 @@ fn the_disk_of_the_system_lists_children(rt: HostRuntime) {
     let lists = lists_made(&rt);
     let removed = fs::remove_dir_all(&rt, "listed").is_ok();
     assert!(rt; made && lists && removed);
+}
+
+fn reads(alloc: Global, disk: &mut RealDisk<'_>, path: &str, bytes: &[u8]) -> bool {
+    match read_whole(alloc, disk, path) {
+        Ok(read) => read.as_slice() == bytes,
+        Err(_) => false,
+    }
+}
+
+fn reads_in_turn(rt: &HostRuntime) -> bool {
+    let mut disk = RealDisk::new(rt);
+    reads(rt.alloc(), &mut disk, "pair/a", b"first")
+        && reads(rt.alloc(), &mut disk, "pair/b", b"and second")
+        && reads(rt.alloc(), &mut disk, "pair/a", b"first")
+        && reads(rt.alloc(), &mut disk, "pair/a", b"first")
+        && !reads(rt.alloc(), &mut disk, "pair/c", b"first")
+        && reads(rt.alloc(), &mut disk, "pair/b", b"and second")
+}
+
+/// Two files whose paths have one length.
+fn make_pair(rt: &HostRuntime) -> bool {
+    fs::create_dir_all(rt, "pair").is_ok()
+        && fs::write(rt, "pair/a", "first").is_ok()
+        && fs::write(rt, "pair/b", "and second").is_ok()
+}
+
+#[test]
+fn files_are_read_in_turn(rt: HostRuntime) {
+    let made = make_pair(&rt);
+    let read = reads_in_turn(&rt);
+    let removed = fs::remove_dir_all(&rt, "pair").is_ok();
+    assert!(rt; made && read && removed);
 }

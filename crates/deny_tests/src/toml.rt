@@ -1,6 +1,7 @@
 //! The calls on the values of a TOML text: keys, faults and paths. What a text is, is shown in
 //! `deny_cases_toml`.
 
+use deny_base::Span;
 use deny_base_lists::{List, NoMemory, Text};
 use deny_toml::{ConfigFault, DeserError, FaultKind, TableHelper, Value, parse};
 use std::alloc::Global;
@@ -34,6 +35,39 @@ fn reads_name(helper: &mut TableHelper) -> bool {
         Ok(spanned) => spanned.value.as_str() == "x" && spanned.span.start == 36,
         Err(_) => false,
     }
+}
+
+/// A key that is there, with the span of its value, and one that is not.
+fn reads_with_span(alloc: Global, value: &mut Value) -> bool {
+    let Ok(mut helper) = TableHelper::new(alloc, value) else {
+        return false;
+    };
+    let gone = matches!(helper.optional_s::<Text>("gone"), Ok(None));
+    match helper.optional_s::<Text>("name") {
+        Ok(Some(spanned)) => {
+            gone && spanned.value.as_str() == "x" && spanned.span == Span { start: 36, end: 37 }
+        }
+        _ => false,
+    }
+}
+
+/// A value of another kind is none, and a fault.
+fn keeps_fault(alloc: Global, value: &mut Value) -> bool {
+    let Ok(mut helper) = TableHelper::new(alloc, value) else {
+        return false;
+    };
+    let none = matches!(helper.optional_s::<Text>("other"), Ok(None));
+    let faults = faults_of(helper.finalize(), alloc);
+    none && is_fault(faults.as_slice(), 0, FaultKind::WrongKind, "other", 8)
+}
+
+#[test]
+fn an_optional_value_is_read_with_its_span(rt: HostRuntime) -> Result<(), NoMemory> {
+    let mut value = value_of(rt.alloc(), TABLE)?;
+    assert!(rt; reads_with_span(rt.alloc(), &mut value));
+    let mut value = value_of(rt.alloc(), "other = true\n")?;
+    assert!(rt; keeps_fault(rt.alloc(), &mut value));
+    Ok(())
 }
 
 fn misses_gone(alloc: Global, helper: &mut TableHelper) -> bool {

@@ -17,6 +17,18 @@
 //!     Ok(value.has_key(key))
 //! }
 //! ```
+//!
+//! # Choices
+//!
+//! A negative integer or one of 2^32 or more is Unreadable as a `u32`.
+//!
+//! That spans lie in the text is a clause of `parse` over the tree, since it needs that the text is UTF-8. "Without
+//! escapes" is defined by the text alone: the span contains no backslash, or an apostrophe precedes it.
+//!
+//! That no two scalars of a tree begin at one offset is a clause of `parse`: written values follow one another, and the
+//! tree puts each at one slot.
+//!
+//! A key that contains a dot is not marked as such in the path of a fault.
 #![tactic(auto)]
 
 mod deserialize;

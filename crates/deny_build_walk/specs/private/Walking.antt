@@ -1,20 +1,22 @@
 -- The invariant of a walk.
-use Rattle.std.specs.Prelude.{◌≡◌, ℕ, ◌++◌, ◌⊎◌, Bool, true, false, List, [], ◌∷◌, Contains, length, map, sum_by}
-use Rattle.std.specs.Prelude.{Some, IfSome}
+use Rattle.std.specs.Prelude.{◌≡◌, ℕ, ◌+◌, ◌++◌, ◌≤◌, ◌⊎◌, Bool, true, false, List, Contains, length, map, sum_by}
+use Rattle.std.specs.Prelude.{Some, IfSome, nat_eq}
+use Rattle.std.specs.List.{starts_with}
 use Rattle.std.specs.List.Sorted.{IsStrictlySortedBy}
 use Rattle.std.specs.Ordering.{nat_cmp}
 use Rattle.std.specs.Cmp.Lexicographic.{slice_cmp}
 use Rattle.std.specs.declared.cmp.Ordering.TheVariants.{Less}
-use Rattle.deny_base_disk.specs.Children.{child, children}
+use Rattle.deny_base_disk.specs.Children.{child, children, prefix_of}
 use Rattle.deny_base_disk.specs.Count.{RoseBy}
 use Rattle.deny_base_disk.specs.Disk.{Disk, Files, IsLater}
 use Rattle.deny_base.specs.declared.span.Kid.{Kid}
-use Rattle.deny_base_unread.specs.Bound.{Folders}
+use Rattle.deny_base_unread.specs.Bound.{Folders, is_in}
 use Rattle.deny_base_unread.specs.Causes.{AreCaused}
 use Rattle.deny_base.specs.Unread.{asked}
 use Rattle.deny_base.specs.declared.purpose.Purpose.TheVariants as purpose
 use Rattle.deny_base.specs.declared.unread.Unread.{Unread}
-use Rattle.deny_build_walk.specs.Walk.{IsFolderBy, is_left_out}
+use Rattle.deny_build_walk.specs.Folder.{ListedAtMost, entries_of}
+use Rattle.deny_build_walk.specs.Walk.{AreApart, IsFolderBy, is_left_out}
 
 -- a listed folder holds a folder (or else a file) of this name that is not left out
 pub record HasIn (by_git : Bool) (root : List ℕ) (files : Files) (listed : List (List ℕ)) (is_folder : Bool)
@@ -30,11 +32,6 @@ pub record IsListedFile (by_git : Bool) (root : List ℕ) (files : Files) (liste
   pub name : List ℕ
   pub has : HasIn by_git root files listed false folder name
   pub is : path ≡ child folder name
-
--- no path occurs twice
-abbrev pub AreApart : List (List ℕ) → Type 0
-AreApart [] = Unit
-AreApart (path ∷ paths) = (Contains paths path → ⊥) × AreApart paths
 
 -- a folder was listed, or has an entry for what is unread
 abbrev pub IsMet : Kid → List (List ℕ) → List Unread → List ℕ → Type 0
@@ -60,7 +57,7 @@ pub record ToldWalk (krate : Kid) (root : List ℕ) (by_git : Bool) (files : Fil
       → IsKnown krate listed own pending (child folder name)
   pub sound : (path : List ℕ) → Contains found path → IsListedFile by_git root files listed path
   pub whole : (path : List ℕ) → IsListedFile by_git root files listed path → Contains found path
-  pub counted : count ≡ sum_by (λ path. length (children files path)) listed
+  pub counted : count ≡ sum_by (entries_of files) listed
 
 -- a walk from a disk and a list of entries up to the present ones
 pub record Walking (krate : Kid) (root : List ℕ) (by_git : Bool) (start : Disk) (first : List Unread) (now : Disk)
@@ -75,4 +72,9 @@ pub record Walking (krate : Kid) (root : List ℕ) (by_git : Bool) (start : Disk
       → slice_cmp nat_cmp path other ≡ Less
   pub caused : (folder : Folders) → folder (Some krate) ≡ root → AreCaused folder start now own
   pub rose : RoseBy count start.listed now.listed
+  pub once : ListedAtMost start now (λ files. count + sum_by (entries_of files) (map (λ u. u.path) own))
+  pub few : length found ≤ count
+  -- all paths are below that of the package's folder
+  pub inside : (path : List ℕ) → Contains pending path → is_in root path ≡ true
+  pub below : (path : List ℕ) → Contains found path → starts_with nat_eq path (prefix_of root) ≡ true
   pub told : IfSome start.files (λ files. ToldWalk krate root by_git files own pending found count)

@@ -1,6 +1,7 @@
 use Rattle.std.proofs.Common.{Err, arith, rules}
 use Rattle.deny_base_disk.proofs.PieceLemmas.{end_handed, failed_then, gave_nothing, later_same, later_then, long_text}
-use Rattle.deny_base_disk.proofs.PieceLemmas.{memory_no_fault, memory_not_long}
+use Rattle.deny_base_disk.proofs.PieceLemmas.{faults_handed, memory_no_fault, memory_not_long}
+use Rattle.deny_base_disk.specs.Read.{failed_calls}
 use Rattle.deny_base_disk.proofs.read.read_whole.Goals as goal
 
 -- memory for the buffer ran out
@@ -31,6 +32,11 @@ pub returns-in_err-read_piece-clause-fault : goal.returns-in_err-read_piece-clau
 returns-in_err-read_piece-clause-fault g c = λ is.
     let handed = end_handed _ c.in_err-read_piece.field-0.0 _ c.from_residual-in_err-read_piece.ensures.1 is in
     failed_then _ _ _ _ _ c.loop-bytes.invariant.0.later (c.in_err-read_piece.ensures.fault (λ i. Err (handed i)))
+
+pub returns-in_err-read_piece-clause-faults : goal.returns-in_err-read_piece-clause-faults
+returns-in_err-read_piece-clause-faults g c =
+    faults_handed failed_calls c.from_residual-in_err-read_piece.result c.in_err-read_piece.field-0.0 _ _ _
+    c.from_residual-in_err-read_piece.ensures.1 c.loop-bytes.invariant.0.faults c.in_err-read_piece.ensures.faults
 
 pub returns-in_err-read_piece-clause-long_by_count : goal.returns-in_err-read_piece-clause-long_by_count
 returns-in_err-read_piece-clause-long_by_count g c = λ is.

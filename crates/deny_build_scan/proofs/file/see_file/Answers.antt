@@ -1,9 +1,11 @@
-use Rattle.std.proofs.Common.{Some, option_map, refl}
+use Rattle.std.proofs.Common.{◌+◌, ◌≤◌, Some, option_map, refl, subst, sym}
 use Rattle.std.specs.Option.{option_copied}
 use Rattle.deny_cfg_build.specs.BuildingView.{building_view, bypass_view}
 use Rattle.deny_krates.specs.Crates.{crate_view}
 use Rattle.deny_base_lists.proofs.Results.{if_ok_then}
 use Rattle.deny_build_scan.proofs.StepLemmas.{file_noted, file_seen}
+use Rattle.deny_spec.specs.declared.package.PackageFile.{PackageFile}
+use Rattle.deny_build_scan.specs.Failures.{calls_of}
 use Rattle.deny_build_scan.proofs.file.see_file.Goals as goal
 use Rattle.deny_build_scan.specs.Why.{IsBecause}
 
@@ -29,3 +31,9 @@ returns-clause-noted g c = if_ok_then c.file_of.result c.file_of.ensures (λ fil
 pub returns-clause-caused : goal.returns-clause-caused
 returns-clause-caused g c =
     if_ok_then c.file_of.result c.file_of.ensures (λ file is folder. c.in_ok-found.ensures.caused folder)
+
+pub returns-clause-faults : goal.returns-clause-faults
+returns-clause-faults g c = if_ok_then c.file_of.result c.file_of.ensures (λ file is.
+    let seen = g.D.PackageFiles.seen in
+    subst (λ (f : PackageFile). (seen c.find.new.disk).faults
+    ≤ (seen c.args.disk.now).faults + calls_of f.seen.found) (sym is) c.in_ok-found.ensures.faults)

@@ -1,10 +1,11 @@
-use Rattle.std.proofs.Common.{◌≡◌, ◌++◌, [], List, append-nil, map, subst, sym}
+use Rattle.std.proofs.Common.{◌≡◌, ◌++◌, [], List, append-nil, arith, map, subst, sym}
 use Rattle.std.specs.List.{AllZip}
 use Rattle.std.specs.Option.{option_copied}
 use Rattle.std.proofs.lemmas.List.{take_all}
 use Rattle.deny_cfg_build.specs.BuildingView.{building_view}
 use Rattle.deny_krates.specs.Crates.{crate_view}
 use Rattle.deny_build_scan.proofs.PackagesLemmas.{caused_next}
+use Rattle.deny_build_scan.proofs.CallLemmas.{file_counted}
 use Rattle.deny_build_scan.proofs.StepLemmas.{next_noted, next_seen}
 use Rattle.deny_build_scan.proofs.files.see_each.Goals as goal
 use Rattle.deny_build_scan.specs.Seen.{IsFileSeen}
@@ -26,6 +27,7 @@ loop-path-init g c =
       noted = λ place. same;
       caused = λ folder. caused_added folder start start a.unread.now a.unread.now [] same
           (caused_none folder start start (later_same start));
+      faults = omega arith;
       later = later_same start;
     }
 
@@ -55,6 +57,8 @@ loop-path-preserved g c =
           (longer_is a.unread.now _ l.unread (before.noted 0))
           (longer_is l.unread _ c.see_file.new.unread (step.noted 0))
           (before.caused folder) (step.caused folder);
+      faults = file_counted start.faults mid.faults end.faults l.files c.push.new.self c.in_ok-see_file.field-0
+          c.in_ok-push.ensures.ok before.faults step.faults;
       later = later_then start mid end before.later later;
     }
 
@@ -84,3 +88,6 @@ returns-in_err-push-clause-later g c = later_then _ _ _ c.loop-path.invariant.la
 
 pub returns-clause-caused : goal.returns-clause-caused
 returns-clause-caused g c = λ folder. c.loop-path.invariant.caused folder
+
+pub returns-clause-faults : goal.returns-clause-faults
+returns-clause-faults g c = c.loop-path.invariant.faults

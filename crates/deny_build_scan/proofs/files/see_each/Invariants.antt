@@ -1,9 +1,10 @@
-use Rattle.std.proofs.Common.{◌≡◌, ◌++◌, ℕ, map, take}
+use Rattle.std.proofs.Common.{◌≡◌, ◌+◌, ◌++◌, ◌≤◌, ℕ, map, take}
 use Rattle.std.specs.List.{AllZip}
 use Rattle.std.specs.Option.{option_copied}
 use Rattle.deny_cfg_build.specs.BuildingView.{building_view}
 use Rattle.deny_krates.specs.Crates.{crate_view}
 use Rattle.deny_base_disk.specs.Disk.{IsLater}
+use Rattle.deny_build_scan.specs.Failures.{calls_for_files}
 use Rattle.deny_build_scan.specs.Seen.{IsFileSeen}
 use Rattle.deny_build_scan.specs.Why.{IsBecause}
 use Rattle.deny_build_scan.specs.private.Entries.{entries_of_all, gaps_of}
@@ -23,5 +24,7 @@ invariant-loop-path g l = record {
       (crate_view place l.krate) (map (λ p. p.path) (take l.path-index l.paths)) l.files;
   caused : (folder : Folders) → AreCaused folder (g.D.PackageFiles.seen l.fn.disk) (g.D.PackageFiles.seen l.disk)
       (added l.fn.unread l.unread);
+  faults : (g.D.PackageFiles.seen l.disk).faults
+      ≤ (g.D.PackageFiles.seen l.fn.disk).faults + calls_for_files l.files;
   later : IsLater (g.D.PackageFiles.seen l.fn.disk) (g.D.PackageFiles.seen l.disk);
 }

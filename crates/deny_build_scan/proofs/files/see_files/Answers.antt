@@ -35,5 +35,8 @@ returns-clause-noted g c = c.in_ok-see_each.ensures.noted
 pub returns-clause-caused : goal.returns-clause-caused
 returns-clause-caused g c = c.in_ok-see_each.ensures.caused
 
+pub returns-clause-faults : goal.returns-clause-faults
+returns-clause-faults g c = c.in_ok-see_each.ensures.faults
+
 pub returns-clause-later : goal.returns-clause-later
 returns-clause-later g c = c.see_each.ensures.later

@@ -1,9 +1,10 @@
-use Rattle.std.proofs.Common.{◌≡◌, ◌∙◌, [], refl, sym, true}
+use Rattle.std.proofs.Common.{◌≡◌, ◌∙◌, [], ap, arith, refl, sym, true}
 use Rattle.std.specs.Option.{option_copied}
 use Rattle.deny_cfg_build.specs.BuildingView.{building_view}
 use Rattle.deny_build_bypass.specs.Marks.{reached_by}
 use Rattle.deny_spec_report.specs.BuildScripts.{is_walked}
 use Rattle.deny_krates.specs.Crates.{crate_view}
+use Rattle.deny_build_scan.specs.Failures.{calls_for_script}
 use Rattle.deny_build_scan.proofs.Checks.{walks_by_script}
 use Rattle.deny_build_scan.proofs.PackageLemmas.{alone_seen, alone_wanted, walked_seen, walked_wanted}
 use Rattle.deny_build_scan.proofs.PackagesLemmas.{caused_next}
@@ -41,6 +42,9 @@ returns-then-not-is_walked-clause-wanted g c =
 pub returns-then-not-is_walked-clause-longer : goal.returns-then-not-is_walked-clause-longer
 returns-then-not-is_walked-clause-longer g c =
     longer_is c.args.unread.now _ c.see_script.new.unread c.in_ok-script.ensures.noted
+
+pub returns-then-not-is_walked-clause-faults : goal.returns-then-not-is_walked-clause-faults
+returns-then-not-is_walked-clause-faults g c = omega (arith, c.in_ok-script.ensures.faults)
 
 pub returns-then-not-is_walked-clause-caused : goal.returns-then-not-is_walked-clause-caused
 returns-then-not-is_walked-clause-caused g c = λ folder right. c.in_ok-script.ensures.caused folder
@@ -85,6 +89,14 @@ pub returns-clause-longer : goal.returns-clause-longer
 returns-clause-longer g c =
     longer_then c.args.unread.now c.see_script.new.unread c.walk.new.unread
     (longer_is c.args.unread.now _ c.see_script.new.unread c.in_ok-script.ensures.noted) c.in_ok-walk.ensures.longer
+
+pub returns-clause-faults : goal.returns-clause-faults
+returns-clause-faults g c = omega (
+  arith,
+  c.in_ok-script.ensures.faults,
+  c.in_ok-walk.ensures.faults,
+  ap calls_for_script c.in_ok-walk.ensures.script,
+)
 
 pub returns-clause-caused : goal.returns-clause-caused
 returns-clause-caused g c = λ folder right.

@@ -1,6 +1,8 @@
-use Rattle.std.proofs.Common.{◌≡◌, ◌∙◌, ◌++◌, [], ℕ, Bool, List, Some, ap, append_assoc, map, nat_cmp, refl, subst, sym}
-use Rattle.std.specs.Prelude.{Contains, IfSome}
+use Rattle.std.proofs.Common.{◌≡◌, ◌∙◌, ◌++◌, [], ℕ, Bool, List, Some, ap, append_assoc, arith, map, nat_cmp, refl, subst, true}
+use Rattle.std.proofs.Common.{sum_by, sym}
+use Rattle.std.specs.Prelude.{Contains, IfSome, nat_eq}
 use Rattle.std.specs.Cmp.Lexicographic.{slice_cmp}
+use Rattle.std.specs.List.{starts_with}
 use Rattle.std.specs.Option.{option_copied}
 use Rattle.deny_cfg_build.specs.BuildingView.{building_view}
 use Rattle.deny_spec.specs.Paths.{path_cmp}
@@ -9,13 +11,16 @@ use Rattle.deny_krates.specs.Crates.{crate_view}
 use Rattle.deny_base_lists.specs.Ascending.{Lists}
 use Rattle.deny_spec.specs.Crates as crates
 use Rattle.deny_spec.specs.Graph.{kid_of}
+use Rattle.deny_base_disk.specs.Children.{prefix_of}
 use Rattle.deny_base_disk.proofs.PieceLemmas.{later_then}
+use Rattle.deny_build_scan.proofs.CallLemmas.{folders_counted}
 use Rattle.deny_build_scan.proofs.PackagesLemmas.{caused_next}
 use Rattle.deny_build_scan.proofs.StepLemmas.{own_read, scripts_read}
-use Rattle.deny_build_scan.proofs.WalkLemmas.{told_all, walk_seen}
+use Rattle.deny_build_scan.proofs.WalkLemmas.{few_once, told_all, walk_seen}
 use Rattle.deny_build_scan.proofs.WantedLemmas.{walk_wanted}
 use Rattle.deny_build_scan.proofs.Zips.{zip_weaker}
 use Rattle.deny_build_scan.proofs.package.walk.Goals as goal
+use Rattle.deny_build_scan.specs.Failures.{calls_for_folders}
 use Rattle.deny_build_scan.specs.Paths.{below}
 use Rattle.deny_build_scan.specs.Seen.{IsFileSeen, IsWalkSeen}
 use Rattle.deny_build_scan.specs.Why.{IsBecause}
@@ -28,7 +33,11 @@ use Rattle.deny_base_unread.specs.Added.{IsLonger, added}
 use Rattle.deny_base.specs.Unread.{is_unread}
 use Rattle.deny_base_unread.specs.View.{view_of}
 use Rattle.deny_base.specs.declared.unread.Unread.{Unread}
+use Rattle.deny_build_walk.specs.Entries.{HasFewEntries, IsPastBound}
+use Rattle.deny_build_walk.specs.Folder.{failed_calls}
 use Rattle.deny_build_walk.specs.Walk.{IsFile, IsFolder}
+use Rattle.deny_build_walk.specs.declared.folder.NoList.TheVariants.{Crowded}
+use Rattle.deny_build_walk.specs.declared.walk.Unlisted.{Unlisted}
 
 pub see_files-requires-clause-scripts : goal.see_files-requires-clause-scripts
 see_files-requires-clause-scripts g c = scripts_read c.args.config.now c.requires
@@ -73,6 +82,17 @@ returns-clause-seen g c = λ place folder right.
     (record { script = a.contents.now.script; unlisted = ul; files = files })) (sym unlisted)
     (walk_seen b home cr start mid end c.walk_package.ensures.later c.see_files.ensures.later first w.lists paths files
     folder a.contents.now.script walked.files walked.unlisted w.ordered w.unlisted (w.why folder (right ∙ sym root))
+    (subst (λ (r : List ℕ). IfSome start.files (λ fs. (n : Unlisted) → Contains walked.unlisted n → n.why ≡ Crowded
+    → IsPastBound (crates.is_git_source cr) r (view_of fs first (Some (kid_of cr))).list fs n.path)) root
+    (subst (λ (by_git : Bool). IfSome start.files (λ fs. (n : Unlisted) → Contains walked.unlisted n → n.why ≡ Crowded
+    → IsPastBound by_git c.folder.result.now (view_of fs first (Some (kid_of cr))).list fs n.path)) git w.past))
+    w.few
+    (subst (λ (r : List ℕ). IfSome start.files (λ fs. HasFewEntries (crates.is_git_source cr) r
+    (view_of fs first (Some (kid_of cr))).list fs)) root
+    (subst (λ (by_git : Bool). IfSome start.files (λ fs. HasFewEntries by_git c.folder.result.now
+    (view_of fs first (Some (kid_of cr))).list fs)) git
+    (few_once start.files c.is_git_source.result c.folder.result.now (λ fs. (view_of fs first (Some (kid_of cr))).list)
+    start mid (map (λ (u : Unread). u.path) first) w.once)))
     (subst (λ (r : List ℕ). IfSome start.files (λ fs. Lists (slice_cmp nat_cmp) (IsFile (crates.is_git_source cr) r
     (view_of fs first (Some (kid_of cr))).list) walked.files)) root
     (subst (λ (by_git : Bool). IfSome start.files (λ fs. Lists (slice_cmp nat_cmp) (IsFile by_git c.folder.result.now
@@ -110,6 +130,9 @@ returns-clause-wanted g c = λ place u there.
     (zip_weaker (λ path file. IsFileSeen (IsBecause (λ k. []) mid end) mid.files b home (gaps_of file) cr path file)
     (λ path file. file.path ≡ below (crates.folder cr) path) paths files (λ path file is. is.rest)
     (f.seen place (λ k. [])))
+    (λ path in_order. subst (λ (r : List ℕ). starts_with nat_eq path (prefix_of r) ≡ true) root
+    (w.below path ((subst (λ (ps : List FilePath). Lists path_cmp (Contains walked.files)
+    (map (λ (p : FilePath). p.path) ps)) (sym c.as_slice-2.ensures) c.in_ok-paths.ensures).sound path in_order)))
     (subst (λ (r : List ℕ). IfSome start.files (λ fs. (v : Unread) → Contains first v
     → IsFolder (crates.is_git_source cr) r (view_of fs first (Some (kid_of cr))).list v.path)) root
     (subst (λ (by_git : Bool). IfSome start.files (λ fs. (v : Unread) → Contains first v
@@ -122,6 +145,17 @@ returns-clause-wanted g c = λ place u there.
     (subst (λ (ps : List FilePath). Lists path_cmp (Contains walked.files) (map (λ (p : FilePath). p.path) ps))
     (sym c.as_slice-2.ensures) c.in_ok-paths.ensures))
     u (subst (λ (us : List Unread). Contains us u) own there))
+
+pub returns-clause-faults : goal.returns-clause-faults
+returns-clause-faults g c =
+    let home = option_copied c.args.home in
+    let walked = c.in_ok-walked.walked in
+    let shown : c.in_ok-contents.field-0 ≡ map (folder_unseen c.folder-2.result.now home) walked.unlisted =
+    c.in_ok-contents.ensures ∙ ap (map (folder_unseen c.folder-2.result.now home)) c.as_slice.ensures in
+    let calls : calls_for_folders c.in_ok-contents.field-0
+    ≡ sum_by (λ (n : Unlisted). failed_calls n.why) walked.unlisted =
+    ap calls_for_folders shown ∙ folders_counted c.folder-2.result.now home walked.unlisted in
+    omega (arith, c.in_ok-walked.ensures.faults, c.in_ok-contents-2.ensures.faults, calls)
 
 pub returns-clause-longer : goal.returns-clause-longer
 returns-clause-longer g c =

@@ -1,4 +1,4 @@
-use Rattle.std.proofs.Common.{◌≤◌, [], List, Option, append-nil, length, subst, sym, take}
+use Rattle.std.proofs.Common.{◌≤◌, [], List, Option, append-nil, arith, length, subst, sym, take}
 use Rattle.std.specs.Option.{option_copied}
 use Rattle.std.proofs.lemmas.List.{take_all}
 use Rattle.deny_cfg_build.specs.BuildingView.{building_view}
@@ -9,6 +9,7 @@ use Rattle.deny_base_lists.proofs.Members.{from_there}
 use Rattle.deny_base_lists.proofs.Indices.{take-next}
 use Rattle.deny_base_lists.proofs.Equalities.{subst₃}
 use Rattle.deny_spec.specs.Graph.{Crate}
+use Rattle.deny_build_scan.proofs.CallLemmas.{package_counted}
 use Rattle.deny_build_scan.proofs.GraphLemmas.{all_long, prefix_apart, prefix_long, prefix_places}
 use Rattle.deny_build_scan.proofs.PackagesLemmas.{AreSoFar, all_because, all_seen, all_wanted, caused_next}
 use Rattle.deny_build_scan.proofs.PackagesLemmas.{so_far_more, so_far_none}
@@ -42,6 +43,7 @@ loop-place-init g c =
       longer = longer_is a.unread.now [] a.unread.now same;
       caused = λ folder right. caused_added folder start start a.unread.now a.unread.now [] same
           (caused_none folder start start (later_same start));
+      faults = omega arith;
       later = later_same start;
     }
 
@@ -83,6 +85,8 @@ loop-place-preserved g c =
       caused = λ folder right. caused_next folder start mid end a.unread.now l.unread c.see_package.new.unread
           before.later later before.longer step.longer (before.caused folder right)
           (step.caused folder (right here (from_there graph.crates l.place here at)));
+      faults = package_counted start.faults mid.faults end.faults l.packages c.push.new.self p
+          c.in_ok-push.ensures.ok before.faults step.faults;
       later = later_then start mid end before.later later;
     }
 
@@ -113,6 +117,9 @@ returns-clause-because g c =
     (subst (λ (cs : List Crate). AreSoFar (seen a.disk.now).files (building_view a.config.now) (reached_by a.marks.now)
     (option_copied a.home) a.krates.now (seen a.disk.now) (seen l.disk) (added a.unread.now l.unread) cs l.packages)
     (take_all l.place a.krates.now.crates all) l.invariant.so_far)
+
+pub returns-clause-faults : goal.returns-clause-faults
+returns-clause-faults g c = c.loop-place.invariant.faults
 
 pub returns-clause-wanted : goal.returns-clause-wanted
 returns-clause-wanted g c =

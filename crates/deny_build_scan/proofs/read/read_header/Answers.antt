@@ -1,7 +1,8 @@
-use Rattle.std.proofs.Common.{◌∷◌, [], Err, Some, append-nil, refl, sym}
+use Rattle.std.proofs.Common.{◌∷◌, [], Err, Some, ap, append-nil, refl, sym}
+use Rattle.deny_build_file.specs.CheckEnd.{failed_calls}
 use Rattle.deny_spec.specs.declared.package.Failure.TheVariants.{Unreadable}
 use Rattle.deny_base_lists.proofs.Results.{if_ok_then}
-use Rattle.deny_build_scan.proofs.ReadLemmas.{failure_noted, kind_unreadable}
+use Rattle.deny_build_scan.proofs.ReadLemmas.{failure_counted, failure_noted, kind_unreadable}
 use Rattle.deny_build_scan.proofs.read.read_header.Goals as goal
 use Rattle.deny_build_scan.specs.Seen.IsKindSeen.{known}
 use Rattle.deny_base_unread.proofs.CauseLemmas.{caused_by_call, caused_none}
@@ -39,3 +40,8 @@ returns-in-Err-Fault-clause-caused g c = if_ok_then c.failed.result c.failed.ens
 
 pub returns-in-Err-Fault-clause-later : goal.returns-in-Err-Fault-clause-later
 returns-in-Err-Fault-clause-later g c = c.check_is_executable.ensures.later
+
+pub returns-in-Err-Fault-clause-faults : goal.returns-in-Err-Fault-clause-faults
+returns-in-Err-Fault-clause-faults g c =
+    failure_counted _ _ _ Unreadable c.failed.result (ap failed_calls c.in-Err-Fault.field-0-is)
+    c.in-Err-Fault.ensures.faults c.failed.ensures.found

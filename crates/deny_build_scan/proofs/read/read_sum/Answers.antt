@@ -1,7 +1,9 @@
-use Rattle.std.proofs.Common.{[], Err, Some, append-nil, refl, sym}
+use Rattle.std.proofs.Common.{[], Err, Some, ap, append-nil, refl, sym}
+use Rattle.deny_build_file.specs.CheckEnd.{failed_calls}
 use Rattle.deny_spec.specs.declared.package.Failure.TheVariants.{Long, Unreadable}
 use Rattle.deny_base_lists.proofs.Results.{if_ok_then}
-use Rattle.deny_build_scan.proofs.ReadLemmas.{caused_long, caused_unreadable, failure_noted, sum_long, sum_unreadable}
+use Rattle.deny_build_scan.proofs.ReadLemmas.{caused_long, caused_unreadable, failure_counted, failure_noted, sum_long}
+use Rattle.deny_build_scan.proofs.ReadLemmas.{sum_unreadable}
 use Rattle.deny_build_scan.proofs.read.read_sum.Goals as goal
 use Rattle.deny_build_scan.specs.Seen.IsSumSeen.{taken}
 use Rattle.deny_base_unread.proofs.CauseLemmas.{caused_none}
@@ -9,7 +11,7 @@ use Rattle.deny_base_unread.proofs.ManifestLemmas.{caused_added}
 use Rattle.deny_base.specs.Unread.{asked}
 
 pub returns-in-Ok-clause-seen : goal.returns-in-Ok-clause-seen
-returns-in-Ok-clause-seen g c = λ folder. taken refl c.in-Ok.sum c.in-Ok.ensures.sum
+returns-in-Ok-clause-seen g c = λ folder. taken refl c.in-Ok.sum c.in-Ok.ensures.sum c.in-Ok.ensures.short
 
 pub returns-in-Err-Fault-clause-seen : goal.returns-in-Err-Fault-clause-seen
 returns-in-Err-Fault-clause-seen g c = if_ok_then c.failed.result c.failed.ensures.found (λ found is folder.
@@ -73,3 +75,13 @@ returns-in-Ok-clause-later g c = c.sha256_of_file.ensures.later
 
 pub returns-in-Err-Memory-clause-later : goal.returns-in-Err-Memory-clause-later
 returns-in-Err-Memory-clause-later g c = c.sha256_of_file.ensures.later
+
+pub returns-in-Err-Fault-clause-faults : goal.returns-in-Err-Fault-clause-faults
+returns-in-Err-Fault-clause-faults g c =
+    failure_counted _ _ _ Unreadable c.failed.result (ap failed_calls c.in-Err-Fault.field-0-is)
+    c.in-Err-Fault.ensures.faults c.failed.ensures.found
+
+pub returns-in-Err-Long-clause-faults : goal.returns-in-Err-Long-clause-faults
+returns-in-Err-Long-clause-faults g c =
+    failure_counted _ _ _ Long c.failed-in-Err-Long.result (ap failed_calls c.in-Err-Long.field-0-is)
+    c.in-Err-Long.ensures.faults c.failed-in-Err-Long.ensures.found

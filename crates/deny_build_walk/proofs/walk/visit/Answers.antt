@@ -42,7 +42,8 @@ returns-in_ok-take_folder-in-Ok-clause-noted g c = λ start first walk noted.
     noted_listed a.krate.now a.root.now a.by_git start first (seen a.disk.now) a.unread.now a.folder.now
     a.walk.now.pending.keys a.walk.now.files a.walk.now.count walk c.requires.least (seen c.list_folder.new.disk)
     c.list_folder.ensures.later a.walk.now.unlisted c.take_folder.new.walk.unlisted c.list_folder.new.unread
-    (rw c.in-Ok.is at c.in_ok-listed.ensures.unread) c.in_ok-take_folder-in-Ok.ensures.unlisted noted
+    (rw c.in-Ok.is at c.in_ok-listed.ensures.unread) c.in_ok-take_folder-in-Ok.ensures.unlisted
+    (rw c.in-Ok.is at c.in_ok-listed.ensures.faults) noted
 
 -- the folder was not listed
 pub returns-in_ok-note-in-Err-clause-walking : goal.returns-in_ok-note-in-Err-clause-walking
@@ -53,7 +54,8 @@ returns-in_ok-note-in-Err-clause-walking g c = λ start first walk.
     walking_unlisted a.krate.now a.root.now a.by_git start first (seen a.disk.now) a.unread.now a.folder.now
     a.walk.now.pending.keys a.walk.now.files a.walk.now.count walk c.requires.least (seen c.list_folder.new.disk)
     c.list_folder.ensures.later c.in-Err.why (2 ^ 24 - a.walk.now.count) c.list_folder.new.unread
-    (omega (arith, c.requires.count)) (rw c.in-Err.is at told.unread) (rw c.in-Err.is at told.unlisted)
+    (omega (arith, c.requires.count)) (rw c.in-Err.is at told.unread) c.list_folder.ensures.once
+    (rw c.in-Err.is at told.unlisted)
 
 pub returns-in_ok-note-in-Err-clause-noted : goal.returns-in_ok-note-in-Err-clause-noted
 returns-in_ok-note-in-Err-clause-noted g c = λ start first walk noted.
@@ -64,4 +66,4 @@ returns-in_ok-note-in-Err-clause-noted g c = λ start first walk noted.
     a.walk.now.pending.keys a.walk.now.files a.walk.now.count walk c.requires.least (seen c.list_folder.new.disk)
     c.list_folder.ensures.later c.in-Err.why (2 ^ 24 - a.walk.now.count) a.walk.now.unlisted c.note.new.unlisted
     c.list_folder.new.unread (omega (arith, c.requires.count)) (rw c.in-Err.is at told.unread)
-    (rw c.in-Err.is at told.unlisted) c.in_ok-note-in-Err.ensures noted
+    (rw c.in-Err.is at told.unlisted) (rw c.in-Err.is at told.faults) c.in_ok-note-in-Err.ensures noted

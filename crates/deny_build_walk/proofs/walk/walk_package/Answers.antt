@@ -1,9 +1,10 @@
 use Rattle.std.proofs.Common.{◌∷◌, arith, rules}
 use Rattle.deny_base_lists.proofs.Orders.{text_cmp-exact}
 use Rattle.deny_base_unread.proofs.AddedLemmas.{longer_is}
+use Rattle.deny_build_walk.proofs.CrowdedLemmas.{walked_past}
 use Rattle.deny_build_walk.proofs.WalkedLemmas.{none_pending, walk_ended}
 use Rattle.deny_build_walk.proofs.WalkedLemmas.{walked_caused, walked_files, walked_lists, walked_ordered}
-use Rattle.deny_build_walk.proofs.WalkedLemmas.{walked_wanted}
+use Rattle.deny_build_walk.proofs.WalkedLemmas.{walked_few, walked_once, walked_wanted}
 use Rattle.deny_build_walk.proofs.WalkingLemmas.{noted_none, walking_start}
 use Rattle.deny_build_walk.specs.private.Walking.{Walking}
 use Rattle.deny_build_walk.proofs.walk.walk_package.Goals as goal
@@ -15,7 +16,7 @@ loop-folder-init g c =
     let walk = c.in_ok-walk.walk in record {
       walking = walking_start a.krate.now a.root.now a.by_git (g.D.PackageFiles.seen a.disk.now) a.unread.now
           walk.pending.keys walk.files walk.count begun.pending begun.files begun.count;
-      noted = noted_none a.krate.now a.root.now (g.D.PackageFiles.seen a.disk.now) a.unread.now walk.unlisted
+      noted = noted_none a.krate.now a.root.now a.by_git (g.D.PackageFiles.seen a.disk.now) a.unread.now walk.unlisted
           begun.unlisted;
       few = omega (arith, begun.count);
     }
@@ -60,5 +61,13 @@ returns g c =
       longer = longer_is a.unread.now walk.own l.unread walk.longer;
       caused = walked_caused a.krate.now a.root.now a.by_git start a.unread.now now l.unread inner l.walk.count walk;
       wanted = walked_wanted a.krate.now a.root.now a.by_git start a.unread.now now l.unread inner l.walk.count walk;
+      faults = l.invariant.noted.faults;
+      once = walked_once a.krate.now a.root.now a.by_git start a.unread.now now l.unread inner l.walk.count walk
+          l.invariant.few;
+      few = walked_few a.krate.now a.root.now a.by_git start a.unread.now now l.unread inner l.walk.count walk
+          l.invariant.few c.put_in_order.new.list all;
+      past = walked_past a.krate.now a.root.now a.by_git start a.unread.now now l.unread l.walk.unlisted
+          l.invariant.noted;
+      below = λ path there. walk.below path (all.sound path there);
       later = walk.later;
     }

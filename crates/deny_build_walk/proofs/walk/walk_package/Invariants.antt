@@ -7,7 +7,7 @@ abbrev pub invariant-loop-folder : goal.invariant-loop-folder
 invariant-loop-folder g l = record {
   walking : Walking l.krate l.root l.by_git (g.D.PackageFiles.seen l.fn.disk) l.fn.unread
       (g.D.PackageFiles.seen l.disk) l.unread l.walk.pending.keys l.walk.files l.walk.count;
-  noted : AreNoted l.krate l.root (g.D.PackageFiles.seen l.fn.disk) l.fn.unread (g.D.PackageFiles.seen l.disk)
+  noted : AreNoted l.krate l.root l.by_git (g.D.PackageFiles.seen l.fn.disk) l.fn.unread (g.D.PackageFiles.seen l.disk)
       l.unread l.walk.unlisted;
   few : l.walk.count ≤ 2 ^ 24;
 }

@@ -32,6 +32,8 @@ impl FromStr for Checksum {
 
     ghost from_str_gives = { λ text read. checksum_view read ≡ checksum_in text };
 
+    /// Reads 64 hex digits of either case. `InvalidLength` comes exactly where the text does not have 64 bytes,
+    /// and else `InvalidValue` exactly where one of them is no hex digit, with the first such.
     fn from_str(text: &str) -> Result<Checksum, ChecksumParseError> {
         if text.len() != 64 {
             return Err(ChecksumParseError::InvalidLength(text.len()));

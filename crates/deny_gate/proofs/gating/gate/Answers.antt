@@ -50,5 +50,5 @@ returns-clause-clash_labels g c = cause_behind_labelled _ (policy_view c.in_ok-p
 pub returns-clause-dead_can_go : goal.returns-clause-dead_can_go
 returns-clause-dead_can_go g c =
     dead_then (texts_in c.args.inputs.now) c.in_ok-policy.policy _ c.as_slice.ensures.value
-    c.in_ok-policy.ensures.ok _ _ c.dead_can_go.ensures c.packages_stay.ensures c.report_on_metadata.result
+    c.in_ok-policy.ensures.ok _ _ c.entries_can_go.ensures c.packages_stay.ensures c.report_on_metadata.result
     c.report_on_metadata.ensures.report

@@ -1,10 +1,10 @@
-use Rattle.deny_gate.proofs.DeadLaws.{loses_only, without_dead}
+use Rattle.deny_gate.proofs.DeadLaws.{dead_of_unhit, dead_unhit}
 use Rattle.deny_gate.proofs.laws.dead_can_go.Goals as goal
 
 pub returns-clause-texts : goal.returns-clause-texts
-returns-clause-texts c = without_dead c.dead_can_go.ensures c.packages_stay.ensures
+returns-clause-texts c = λ told texts report of.
+    dead_of_unhit told texts report (c.unhit_can_go.ensures.texts told texts report of)
 
 pub returns-clause-reports : goal.returns-clause-reports
-returns-clause-reports c = λ d taken report other is among kept that.
-    loses_only c.dead_can_go.ensures d taken report is among kept c.entry_order.ensures.total c.one_report.ensures other
-    that
+returns-clause-reports c = λ d taken report other is among.
+    c.unhit_can_go.ensures.reports d taken report other is (dead_unhit d taken report is among)
