@@ -113,6 +113,15 @@ def answer(which, at, *words):
     return "".join("%s|" % word for word in (which, at.top.parent, *words))
 
 
+def helps():
+    """The page of ./deny, which needs nothing."""
+    with checkout(has_rt=False) as at:
+        status, out, said = at.run("deny", "--help")
+        yield "a page", (status, said, at.run("deny", "-h")), (0, "", (0, out, ""))
+        for text in "check [OPTIONS] POLICY METADATA", "--home=", "--registry=", "docs/USE.md":
+            yield "which has %s" % text, text in out, True
+
+
 def compiled():
     """./deny where no proved program is."""
     words = ["check", "--home=a b", "p", "", "*"]
@@ -276,10 +285,28 @@ def failures():
 
 
 FILES = {
-    "bin/burkativ": 0o755, "bin/burkativ-show": 0o755, "bin/cargo-burkativ": 0o755, "share/burkativ/PROVED": 0o644,
-    "share/burkativ/README.md": 0o644, "share/burkativ/LICENSE-MIT": 0o644, "share/burkativ/LICENSE-APACHE": 0o644,
+    "bin/burkativ": 0o755, "bin/burkativ-show": 0o755, "bin/burkativ-table": 0o755, "bin/cargo-burkativ": 0o755,
+    "share/burkativ/PROVED": 0o644, "share/burkativ/README.md": 0o644, "share/burkativ/LICENSE-MIT": 0o644,
+    "share/burkativ/LICENSE-APACHE": 0o644,
     "share/burkativ/docs/USE.md": 0o644,
 }
+
+
+TEXTS = ("LICENSE-MIT", "LICENSE-APACHE", "cargo-burkativ", "tools/users/replacement_table.py")
+LINK = re.compile(r"\[([^]]*)\]\(([^)#]*)[^)]*\)")
+
+
+def dead_links(folder):
+    """The links of pages to files that are not there, but for other pages, of which a small repository has one."""
+    pages = [page for page in folder.rglob("*.md")]
+    links = [(page, target) for page in pages for _, target in LINK.findall(page.read_text()) if target]
+    others = {page.name for page in (TOP / "docs").glob("*.md")}
+    return [target for page, target in links if not (page.parent / target).exists() and Path(target).name not in others]
+
+
+def words_of(page):
+    """A page without its links."""
+    return LINK.sub(r"\1", page.read_text())
 
 
 def modes(prefix):
@@ -289,9 +316,9 @@ def modes(prefix):
 def installed():
     """./install."""
     with checkout() as at:
-        for file in "README.md", "LICENSE-MIT", "LICENSE-APACHE", "docs/USE.md", "cargo-burkativ":
+        for file in (*TEXTS, "README.md", "docs/USE.md"):
             os.makedirs((at.top / file).parent, exist_ok=True)
-            (at.top / file).write_text(file)
+            (at.top / file).write_text("%s, " % file + (TOP / file).read_text())
         prefix = at.top.parent / "prefix"
         for words in [], ["prefix"], ["/a", "/b"]:
             yield "install %s" % " ".join(words), at.run("install", *words)[:2], (2, "")
@@ -309,13 +336,15 @@ def installed():
         yield "what is proved", at.run("install", str(prefix))[0], 0
         yield "has its files", modes(prefix), FILES
         yield "the program", (prefix / "bin/burkativ").read_bytes(), (at.out("deny") / "deny").read_bytes()
+        yield "pages without dead links", dead_links(prefix / "share/burkativ"), []
+        yield "which say the same", words_of(prefix / "share/burkativ/docs/USE.md"), words_of(at.top / "docs/USE.md")
         yield "and what was proved", (prefix / "share/burkativ/PROVED").read_text(), proof.read_text()
         staged = at.top.parent / "staged"
         yield "below DESTDIR", (at.run("install", "/usr", DESTDIR=str(staged))[0], modes(staged / "usr")), (0, FILES)
 
 
 def situations():
-    for part in compiled, proved, all_of_it, parts, failures, installed:
+    for part in helps, compiled, proved, all_of_it, parts, failures, installed:
         yield from part()
 
 

@@ -71,6 +71,7 @@ CRATES = ("plain", "standard", "more", "third", "unixy", "windowy")
 DENIED = "[bans]\ndeny = %s\n" % json.dumps(CRATES)
 PLAIN = '[bans]\ndeny = ["plain"]\n'
 PASSES = "[bans]\n"
+NO_LICENCES = "cargo-burkativ: licences are not checked, since deny.toml has no [licenses]\n"
 
 
 def script(path, text):
@@ -463,12 +464,13 @@ def page(scene, options, lines):
 def formats(scene):
     for name, policy, options, wanted in STATUSES:
         scene.write({"up/shop/deny.toml": policy})
+        said = "" if "[licenses]" in policy or "]" not in policy else NO_LICENCES
         status, lines, stop, texts = programs_own(scene, "deny.toml", options)
         yield f"{name}: the status", status, wanted
-        yield f"{name}: the lines", scene.door("--format=json", *options), (status, lines, stop)
-        yield f"{name}: a page", scene.door(*options), (*page(scene, texts, lines + stop), "")
+        yield f"{name}: the lines", scene.door("--format=json", *options), (status, lines, said + stop)
+        yield f"{name}: a page", scene.door(*options), (*page(scene, texts, lines + stop), said)
         full = ["--format=github", f"--policy={scene.shop / 'deny.toml'}", *texts[1:]]
-        yield f"{name}: annotations", scene.door("--format=github", *options), (*page(scene, full, lines + stop), "")
+        yield f"{name}: annotations", scene.door("--format=github", *options), (*page(scene, full, lines + stop), said)
 
 
 def details(scene):
@@ -521,17 +523,19 @@ EXCEPTIONS = "deny.exceptions.toml", ".deny.exceptions.toml", ".cargo/deny.excep
 def unread(scene):
     for text, names in UNREAD:
         scene.write({"up/shop/deny.toml": text})
+        licences = "" if "[licenses]" in text else NO_LICENCES
         line = f"cargo-burkativ: unread in deny.toml: {', '.join(names)} (-v says more)\n" if names else ""
         named = ", ".join(names) or "nothing"
         status, out, _ = scene.door("--format=json")
-        yield f"unread: {named}", scene.door("--format=json"), (0, out, line)
-        err = scene.door("-v")[2].splitlines()
+        yield f"unread: {named}", scene.door("--format=json"), (0, out, licences + line)
+        err = scene.door("-v")[2].removeprefix(licences).splitlines()
         begins = [f"cargo-burkativ: unread in deny.toml: {name}: " for name in names]
         found = [one[: len(begin)] for one, begin in zip(err, begins)] if len(err) == len(begins) else err
         yield f"unread with -v: {named}", found, begins
     for name in EXCEPTIONS:
         scene.write({"up/shop/deny.toml": PASSES, f"up/shop/{name}": ""})
-        yield f"unread: {name}", scene.door()[2], f"cargo-burkativ: unread in deny.toml: {name} (-v says more)\n"
+        line = f"cargo-burkativ: unread in deny.toml: {name} (-v says more)\n"
+        yield f"unread: {name}", scene.door()[2], NO_LICENCES + line
         (scene.shop / name).unlink()
 
 
@@ -592,9 +596,9 @@ def ends(scene):
         yield "lines on a full disk", scene.door("--format=json", out=full)[0], 23
         yield "a page on a full disk", scene.door(out=full)[0], STOPPED
     script(scene.top / "bin/burkativ", "#!/bin/sh\necho building >&2\nexit 1\n")
-    yield "a program that was not built", scene.door(), (1, "", "building\n")
+    yield "a program that was not built", scene.door(), (1, "", f"{NO_LICENCES}building\n")
     script(scene.top / "bin/burkativ", "#!/bin/sh\nexit 28\n")
-    yield "a program that writes nothing", scene.door(), (28, "", "")
+    yield "a program that writes nothing", scene.door(), (28, "", NO_LICENCES)
     script(scene.top / "bin/burkativ", "#!/bin/sh\necho '{'\nkill -9 $$\n")
     yield "a program that is killed", *stopped(scene.door(), ["burkativ", "SIGKILL"])
     scene.record("bin/burkativ", scene.program)
@@ -640,7 +644,8 @@ def terminals(scene):
     yield "none with NO_COLOR", "--color=always" in scene.last("cargo"), False
     scene.door()
     yield "none in a pipe", "--color=always" in scene.last("cargo"), False
-    yield "long work in a pipe", scene.door(**slow), (0, "no findings; verdict: pass\n", "from cargo\n" * 2)
+    said = f"from cargo\n{NO_LICENCES}from cargo\n"
+    yield "long work in a pipe", scene.door(**slow), (0, "no findings; verdict: pass\n", said)
 
 
 def ended_by(scene, number):

@@ -76,6 +76,13 @@ def situations(folder):
     yield "its page", ended([prefix / "bin/burkativ-show", *WORDS], EXAMPLES, path), (STATUS, page, "")
     door = ended([prefix / "bin/cargo-burkativ", "burkativ", "--help"], folder, path)
     yield "the front door", (door[0], "Traceback" in door[2]), (0, False)
+    pages = list((prefix / "share/burkativ").rglob("*.md"))
+    links = [(page, target) for page in pages for target in re.findall(r"\]\(([^)#]+)[^)]*\)", page.read_text())]
+    yield "links of pages", [target for page, target in links if not (page.parent / target).exists()], []
+    table = [prefix / "bin/burkativ-table", EXAMPLES / "replacements.json", folder / "table"]
+    yield "a table of replacements", ended(table, folder, path), (0, "", "")
+    written = (folder / "table").read_bytes() == (EXAMPLES / "replacements.bin").read_bytes()
+    yield "which is that of its text", written, True
     for text in "kit: ", "proved: ", "commit: ":
         yield "PROVED has '%s'" % text, text in (prefix / "share/burkativ/PROVED").read_text(), True
     yield "the libraries that it needs", libraries(prefix / "bin/burkativ")[0] - NEEDED, set()

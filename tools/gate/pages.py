@@ -11,9 +11,11 @@ import json
 import os
 import pty
 import shutil
+import signal
 import subprocess
 import sys
 import tempfile
+import time
 from pathlib import Path
 
 TOP = Path(__file__).resolve().parents[2]
@@ -263,6 +265,62 @@ def programs(folder):
     yield "without a program it says so", (status, out, "does not start" in said), (1, "", True)
 
 
+# Stand-ins that do not end by themselves: one that writes lines, and one that waits for another.
+WRITES = """#!/bin/sh
+echo $$ >pid
+while :; do echo '{"fields":{"path":"/x"},"type":"malformed"}'; done
+"""
+WAITS = """#!/bin/sh
+sleep 1000 &
+echo $! >pid
+echo begun >&2
+wait
+"""
+
+
+def is_gone(number):
+    """Whether a process ends in some seconds."""
+    end = time.time() + 20
+    while time.time() < end and os.path.exists("/proc/%s" % number):
+        time.sleep(0.05)
+    return not os.path.exists("/proc/%s" % number)
+
+
+def ended_early(folder, program, end):
+    """The status of ./show that ends before its program does, and whether all that it ran is gone."""
+    (folder / "deny").write_text(program)
+    (folder / "deny").chmod(0o755)
+    words = [sys.executable, shutil.copy(TOP / "show", folder / "show"), "check", "p", "m"]
+    how = {"stdout": subprocess.PIPE, "stderr": subprocess.PIPE, "cwd": folder}
+    with subprocess.Popen(words, **how) as run:
+        end(run)
+        status = run.wait(60)
+    return status, is_gone((folder / "pid").read_text().strip())
+
+
+def close_after_a_line(output):
+    output.readline()
+    output.close()
+
+
+def send(number):
+    """Waits for what the program says first, and sends a signal."""
+    return lambda run: (run.stderr.readline(), run.send_signal(number))
+
+
+def endings(folder):
+    """Where nobody reads on, or a signal comes, all that was run ends."""
+    for name, program, end, status in (
+        ("nobody reads on", WRITES, lambda run: close_after_a_line(run.stdout), -signal.SIGPIPE),
+        ("nobody reads what it says", WAITS, lambda run: run.stderr.close(), -signal.SIGPIPE),
+        ("an interrupt", WAITS, send(signal.SIGINT), -signal.SIGINT),
+        ("SIGTERM", WAITS, send(signal.SIGTERM), 128 + signal.SIGTERM),
+        ("SIGHUP", WAITS, send(signal.SIGHUP), 128 + signal.SIGHUP),
+    ):
+        (folder / name).mkdir()
+        yield name, ended_early(folder / name, program, end), (status, True)
+
+
 def situations(folder):
     yield from severities()
     yield from trees()
@@ -270,6 +328,7 @@ def situations(folder):
     yield from annotations(folder)
     yield from refused_keys()
     yield from options()
+    yield from endings(folder)
     yield from programs(folder)
 
 
