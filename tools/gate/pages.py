@@ -265,10 +265,13 @@ def programs(folder):
     yield "without a program it says so", (status, out, "does not start" in said), (1, "", True)
 
 
-# Stand-ins that do not end by themselves: one that writes lines, and one that waits for another.
+# Stand-ins: one that writes lines and does not end, one that says how much it reads, and one that waits for another.
 WRITES = """#!/bin/sh
 echo $$ >pid
 while :; do echo '{"fields":{"path":"/x"},"type":"malformed"}'; done
+"""
+COUNTS = """#!/bin/sh
+echo '{"fields":{"path":"/'$(wc -c </dev/stdin)'"},"type":"malformed"}'
 """
 WAITS = """#!/bin/sh
 sleep 1000 &
@@ -308,6 +311,16 @@ def send(number):
     return lambda run: (run.stderr.readline(), run.send_signal(number))
 
 
+def handed_on(folder):
+    """What ./show is given on standard input is there for the program, as /dev/stdin."""
+    folder.mkdir()
+    (folder / "deny").write_text(COUNTS)
+    (folder / "deny").chmod(0o755)
+    words = [sys.executable, shutil.copy(TOP / "show", folder / "show"), "check", "p", "/dev/stdin"]
+    out = subprocess.run(words, input=b"12345", capture_output=True, cwd=folder, timeout=60).stdout
+    yield "standard input", out.splitlines()[0], b"/5: malformed: this is no TOML"
+
+
 def endings(folder):
     """Where nobody reads on, or a signal comes, all that was run ends."""
     for name, program, end, status in (
@@ -328,6 +341,7 @@ def situations(folder):
     yield from annotations(folder)
     yield from refused_keys()
     yield from options()
+    yield from handed_on(folder / "standard input")
     yield from endings(folder)
     yield from programs(folder)
 
