@@ -27,7 +27,9 @@ use Rattle.deny_toml_tree.specs.declared.error.DeserError.{DeserError}
 use Rattle.deny_toml_tree.specs.declared.error.DeserError.TheVariants.{Faults}
 
 kinds : List FaultKind
-kinds = kind.NotUtf8 ∷ kind.Grammar ∷ kind.Clash ∷ kind.Unknown ∷ kind.Missing ∷ kind.WrongKind ∷ kind.Unreadable ∷ []
+kinds =
+    kind.NotUtf8 ∷ kind.Grammar ∷ kind.Clash ∷ kind.Unknown ∷ kind.Missing ∷ kind.WrongKind ∷ kind.Unreadable
+    ∷ kind.NoToday ∷ []
 
 kind_at : ℕ → FaultKind
 kind_at n = slice_index_or kinds n kind.NotUtf8
@@ -41,6 +43,7 @@ kind_at-number kind.Unknown = refl
 kind_at-number kind.Missing = refl
 kind_at-number kind.WrongKind = refl
 kind_at-number kind.Unreadable = refl
+kind_at-number kind.NoToday = refl
 
 kind_cmp-exact : IsAntisymmetric kind_cmp
 kind_cmp-exact a b e = sym (kind_at-number a) ∙ (ap kind_at (nat_cmp-IsAntisymmetric (kind_number a) (kind_number b) e)

@@ -52,6 +52,11 @@ abbrev pub bool_of : Scalar → Option Bool
 bool_of (scalar.Boolean b) = Some b
 bool_of _ = None
 
+-- the text of a date, a time or both, as it is written
+abbrev pub date_of : Scalar → Option (List ℕ)
+date_of (scalar.Date bytes) = Some bytes
+date_of _ = None
+
 abbrev pub table_in : Value → Option Table
 table_in v = table_of (layer_in v)
 
@@ -66,6 +71,9 @@ integer_in v = option_and_then integer_of (scalar_of (layer_in v))
 
 abbrev pub bool_in : Value → Option Bool
 bool_in v = option_and_then bool_of (scalar_of (layer_in v))
+
+abbrev pub date_in : Value → Option (List ℕ)
+date_in v = option_and_then date_of (scalar_of (layer_in v))
 
 -- the text of a value that is a one-line string
 abbrev pub one_line_in : Value → Option (List ℕ)

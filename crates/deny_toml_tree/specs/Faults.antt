@@ -26,6 +26,7 @@ kind_number kind.Unknown = 3
 kind_number kind.Missing = 4
 kind_number kind.WrongKind = 5
 kind_number kind.Unreadable = 6
+kind_number kind.NoToday = 7
 
 abbrev pub kind_cmp : FaultKind → FaultKind → Ordering
 kind_cmp = on kind_number nat_cmp

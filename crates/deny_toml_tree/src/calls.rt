@@ -5,7 +5,8 @@ ghost use Rattle.std.specs.Cmp.Lexicographic.{pointwise};
 ghost use Rattle.std.specs.Option.{option_copied, option_map};
 ghost use Rattle.deny_toml_tree.specs.Value.{entries_in};
 ghost use Rattle.deny_toml_tree.specs.Faults.{Reports, faults_of_kind};
-ghost use Rattle.deny_toml_tree.specs.Calls.{table_in, array_in, text_in, bool_in, integer_in, below_name, has_name};
+ghost use Rattle.deny_toml_tree.specs.Calls.{table_in, array_in, text_in, bool_in, integer_in, date_in};
+ghost use Rattle.deny_toml_tree.specs.Calls.{below_name, has_name};
 ghost use Rattle.deny_toml_tree.specs.private.Calls.{IsPast};
 ghost use Rattle.deny_toml_tree.specs.Calls.{below, layer_in, value_below, value_at_path, parts_of, is_decimal_digit};
 ghost use Rattle.deny_toml_tree.specs.Calls as spec;
@@ -76,6 +77,17 @@ impl<'t> Value<'t> {
     {
         match &self.content {
             Content::Scalar(Scalar::Integer(number)) => Some(*number),
+            _ => None,
+        }
+    }
+
+    /// The text of the date, the time or both that this value is, as it is written, if it is one. A
+    /// string is none.
+    pub fn as_date(&self) -> Option<&str>
+        ensures { option_map (λ text. text.now) result ≡ date_in self.now }
+    {
+        match &self.content {
+            Content::Scalar(Scalar::Date(text)) => Some(text.as_str()),
             _ => None,
         }
     }

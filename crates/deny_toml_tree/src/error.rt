@@ -23,6 +23,8 @@ pub enum FaultKind {
     WrongKind,
     /// A value of the right kind that cannot be read.
     Unreadable,
+    /// A day until which something counts, where it is not told which day it is.
+    NoToday,
 }
 
 /// One fault of a value.

@@ -28,6 +28,7 @@ impl FaultKind {
             FaultKind::Missing => 4,
             FaultKind::WrongKind => 5,
             FaultKind::Unreadable => 6,
+            FaultKind::NoToday => 7,
         }
     }
 
