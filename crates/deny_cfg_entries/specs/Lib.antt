@@ -1,4 +1,5 @@
 pub mod Apart
+pub mod Day
 pub mod Depends
 pub mod Entry
 pub mod Licence

@@ -21,8 +21,12 @@
 //! lines for this.
 //!
 //! The parts of a `rust-version` may have leading zeros.
+//!
+//! A day is the date of its three numbers, and not read by the `FromStr` of dates, which takes further forms: a time
+//! behind the date, a sign and six digits of a year, a date without `-`. So `2026-01-31` is the one text of its day.
 #![tactic(auto)]
 
+mod day;
 mod extended;
 mod flag;
 mod from_table;
@@ -42,6 +46,7 @@ mod unread;
 mod version_key;
 mod written_requirement;
 
+pub use day::{Day, DayError, read_day};
 pub use extended::{Extended, read_entry};
 pub use flag::is_set;
 pub use from_table::{FromTable, read_table};

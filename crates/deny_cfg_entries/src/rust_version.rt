@@ -13,7 +13,7 @@ use std::alloc::{AllocError, Global};
 
 /// The number that decimal digits write; None where there is no digit, another character, or a number of 2^32 or more.
 #[tactic(auto, unfolding(crate::specs::RustVersion::number_in))]
-fn number_in(digits: &[u8]) -> Option<u64>
+pub(crate) fn number_in(digits: &[u8]) -> Option<u64>
     ensures { result ≡ number_in digits.now }
 {
     if digits.is_empty() {
