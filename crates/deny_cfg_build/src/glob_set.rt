@@ -15,14 +15,15 @@ pub struct ValidGlobSet {
 }
 
 impl ValidGlobSet {
-    ghost use Rattle.std.specs.Prelude.{ℕ, ◌↔◌, Contains, IfOk, map, option_map};
+    ghost use Rattle.std.specs.Prelude.{ℕ, ◌↔◌, Contains, IfOk, OnErr, map, option_map};
     ghost use Rattle.std.specs.List.Sorted.{IsStrictlyIncreasing};
     ghost use Rattle.std.specs.Str.{chars};
-    ghost use Rattle.deny_globs.specs.Sets.{FitsAt};
+    ghost use Rattle.deny_globs.specs.Sets.{AreFirstFitting, FitsAt};
     ghost use Rattle.deny_cfg_build.specs.Globs.{patterns_at};
 
     /// The patterns whose globs match the whole path, in order; None exactly where no glob matches. The
-    /// indices of these globs, ascending, replace what `indices` held.
+    /// indices of these globs, ascending, replace what `indices` held. Where memory runs out, the list
+    /// holds the first of them.
     pub fn matches<'s>(
         &'s self,
         path: &str,
@@ -33,6 +34,7 @@ impl ValidGlobSet {
             ↔ FitsAt self.now.set i (chars path.now)) }
         ensures patterns { IfOk result (λ found. option_map (λ all. map (λ pattern. pattern.now) all.items) found
             ≡ patterns_at self.now.patterns indices.new.items) }
+        ensures short { OnErr result (AreFirstFitting self.now.set (chars path.now) indices.new.items) }
     {
         self.set.matches(path, indices)?;
         if indices.is_empty() {
