@@ -7,6 +7,13 @@ use Rattle.std.specs.Char.{is_ascii_alphanumeric}
 use Rattle.deny_globs.specs.Characters.{star, dot}
 use Rattle.deny_globs.specs.Fits.{Fits}
 use Rattle.deny_globs.specs.Patterns.{Pattern, characters_of, tokens_of}
+use Rattle.deny_globs.specs.Tree.{IsGlob}
+use Rattle.deny_globs.specs.declared.token.Token.{Token}
+
+-- the characters of a glob are a glob with its tokens, and with no others
+pub record IsRead (glob : Pattern) : Type 0 where
+  pub tokens : IsGlob (characters_of glob) (tokens_of glob)
+  pub only : (other : List Token) → IsGlob (characters_of glob) other → other ≡ tokens_of glob
 
 -- the glob with this number fits
 abbrev pub FitsAt : List Pattern → ℕ → List ℕ → Type 0

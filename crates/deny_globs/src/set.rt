@@ -1,5 +1,5 @@
 ghost use Rattle.std.specs.Prelude.{ℕ, List, ◌≡◌, ◌<◌, ◌≤◌, ◌+◌, ◌*◌, ◌↔◌, ◌∷◌, ◌++◌, []};
-ghost use Rattle.std.specs.Prelude.{length, OnOk, OnErr, Contains};
+ghost use Rattle.std.specs.Prelude.{length, OnOk, OnErr, All, Contains};
 ghost use Rattle.std.specs.List.Sorted.{IsStrictlyIncreasing};
 ghost use Rattle.std.specs.Str.{chars};
 ghost use Rattle.deny_globs.specs.Compiled.{IsProgram};
@@ -7,7 +7,7 @@ ghost use Rattle.deny_globs.specs.private.Compiled.{Grows, AddsStates};
 ghost use Rattle.deny_globs.specs.Index.{Ascend, IsIndexed, AreCompiled};
 ghost use Rattle.deny_globs.specs.private.Index.{NotesNamed};
 ghost use Rattle.deny_globs.specs.private.Index.{NotesSimple, BoundsNamed, BoundsSimple, Indexes};
-ghost use Rattle.deny_globs.specs.Sets.{FitsAt, KeepsBound, AreFirstFitting};
+ghost use Rattle.deny_globs.specs.Sets.{IsRead, FitsAt, KeepsBound, AreFirstFitting};
 ghost use Rattle.deny_globs.specs.private.Sets.{AreFitting};
 ghost use Rattle.deny_globs.specs.Starts.{AreStarts};
 ghost use Rattle.deny_globs.specs.private.Starts.{KeepsStarts};
@@ -81,6 +81,13 @@ impl GlobSet {
         )?;
         self.globs.vec.push(glob)?;
         Ok(())
+    }
+
+    /// Each glob of a set is read from its characters, whatever made the set. Nothing is done at run time.
+    pub fn are_read(&self)
+        ensures { All IsRead self.now }
+    {
+        let _ = &self.globs;
     }
 
     /// Clears the list, and puts into it the numbers of the globs that fit the whole path,
