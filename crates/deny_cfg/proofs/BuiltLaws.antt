@@ -28,6 +28,7 @@ use Rattle.deny_toml.specs.Spans.{IsSpan}
 use Rattle.deny_cfg.proofs.Among.{lie_rest}
 use Rattle.deny_cfg.proofs.LabelLaws.{Lie}
 use Rattle.deny_cfg.specs.LabelSpans.{older_span, of_some, own_span}
+use Rattle.deny_cfg.specs.Marks.{IsPolicySpan}
 use Rattle.deny_cfg.specs.private.LabelSpans.{list_spans, wrapper_list}
 use Rattle.deny_cfg.specs.PolicyText.{IsPolicyOf, globs_files}
 use Rattle.deny_cfg.specs.PolicyView.{AreGlobsRead, builtin_file_of}
@@ -145,27 +146,27 @@ patterns_located valid read =
 
 -- ---- the older key
 
-older_lies : (text : List ℕ) (number : ℕ) (build : Option BuildConfig)
+older_lies : (P : Span → Type 0) (number : ℕ) (build : Option BuildConfig)
     (scripts : Option (Spanned (List PackageSpec))) (valid : Option ValidBuildConfig)
     → OfBoth (λ b. IsBuildOf b number (older_key_by build scripts)) (build_by build scripts) valid
-    → Lie text (of_some own_span scripts)
-    → Lie text (of_some (λ b. of_some (λ span. span ∷ []) b.older_key) valid)
-older_lies text number None None None is lie = tt
-older_lies text number None None (Some valid) is lie = absurd is
-older_lies text number None (Some scripts) None is lie = absurd is
-older_lies text number None (Some scripts) (Some valid) is lie =
-    subst (λ o. Lie text (of_some (λ span. span ∷ []) o)) (sym is.older_key) lie
-older_lies text number (Some build) scripts None is lie = absurd is
-older_lies text number (Some build) scripts (Some valid) is lie =
-    subst (λ o. Lie text (of_some (λ span. span ∷ []) o)) (sym is.older_key) tt
+    → Lie P (of_some own_span scripts)
+    → Lie P (of_some (λ b. of_some (λ span. span ∷ []) b.older_key) valid)
+older_lies P number None None None is lie = tt
+older_lies P number None None (Some valid) is lie = absurd is
+older_lies P number None (Some scripts) None is lie = absurd is
+older_lies P number None (Some scripts) (Some valid) is lie =
+    subst (λ o. Lie P (of_some (λ span. span ∷ []) o)) (sym is.older_key) lie
+older_lies P number (Some build) scripts None is lie = absurd is
+older_lies P number (Some build) scripts (Some valid) is lie =
+    subst (λ o. Lie P (of_some (λ span. span ∷ []) o)) (sym is.older_key) tt
 
 pub older_key_lies : (text : List ℕ) (config : Config) (file number : ℕ) (valid : ValidConfig)
-    → IsValidOf config file number valid → All (IsSpan text) (list_spans config)
-    → All (IsSpan text) (older_span valid)
+    → IsValidOf config file number valid → All (IsPolicySpan text) (list_spans config)
+    → All (IsPolicySpan text) (older_span valid)
 unfolding list_spans
 older_key_lies text config file number valid is lists =
     let wrappers = flat_map wrapper_list config.deny in
-    All-from_recursion (IsSpan text) (older_span valid)
-    (older_lies text number config.build config.allow_build_scripts valid.build is.build
-    (lie_rest text wrappers (of_some own_span config.allow_build_scripts)
-    (recursion_from_All (IsSpan text) (wrappers ++ of_some own_span config.allow_build_scripts) lists)))
+    All-from_recursion (IsPolicySpan text) (older_span valid)
+    (older_lies (IsPolicySpan text) number config.build config.allow_build_scripts valid.build is.build
+    (lie_rest (IsPolicySpan text) wrappers (of_some own_span config.allow_build_scripts)
+    (recursion_from_All (IsPolicySpan text) (wrappers ++ of_some own_span config.allow_build_scripts) lists)))

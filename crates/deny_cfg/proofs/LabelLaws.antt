@@ -1,102 +1,186 @@
--- The spans of what is read from a value lie in the text, and those of words start where scalars of the value start,
+-- The spans of what is read from a value are marks in it, and those of words start where scalars of the value start,
 -- each at another scalar.
 use Rattle.std.proofs.lemmas.Bool.{and_parts, not-true}
-use Rattle.std.proofs.lemmas.Option.{same_Some}
 use Rattle.std.proofs.Common.{◌≡◌, ◌+◌, ◌&&◌, ◌++◌, ℕ, Bool, true, false, cond, not, List, [], ◌∷◌, map, append-nil}
-use Rattle.std.proofs.Common.{Option, Some, None, refl, sym, ap, ◌∙◌, subst, arith}
-use Rattle.std.specs.Prelude.{nat_eq, option_map, find}
+use Rattle.std.proofs.Common.{Option, Some, None, inl, refl, sym, ap, ◌∙◌, subst, arith}
+use Rattle.std.specs.Prelude.{Contains, nat_eq, option_and_then, option_map, find}
 use Rattle.std.specs.Cmp.Lexicographic.{pointwise}
 use Rattle.std.specs.List.{AllByRecursion, IsDistinct, flat_map}
 use Rattle.std.proofs.lemmas.List.{map-append}
 use Rattle.deny_base.specs.declared.span.Span.{Span}
+use Rattle.deny_base_lists.proofs.Each.{all_append, all_weaker}
+use Rattle.deny_base_lists.proofs.Finding.{found_member}
+use Rattle.deny_base_lists.proofs.Members.{Contains-by_cases, Contains-first, Contains-rest, no_member}
 use Rattle.deny_toml.proofs.ApartLaws.{times, times-append, starts_of_entries}
 use Rattle.deny_toml.proofs.ApartParts.{IsPartOf, names_part, part_nothing, part_of_part, parts_append, starts_at}
 use Rattle.deny_toml.proofs.ApartParts.{starts_of, starts_of_elements, starts_of_keys}
 use Rattle.deny_toml.specs.Apart.{starts_in}
-use Rattle.deny_toml.specs.Calls.{Layer, array_in, array_of, has_name, layer_in, table_in, table_of, value_at, without}
+use Rattle.deny_toml.specs.Calls.{array_in, below_name, entry_at, has_name, table_in, value_at, without}
 use Rattle.deny_toml.specs.Deserialize.{ReadsArray, ReadsEach}
-use Rattle.deny_toml.specs.Spans as spans
-use Rattle.deny_toml.specs.Spans.{AllOfContent, AllOfEntries, AllOfValues, IsSpan, KeyOccurs, OccursIn}
-use Rattle.deny_toml.specs.Spans.{ValueOccurs}
-use Rattle.deny_toml.specs.Value.{entries_in}
+use Rattle.deny_toml.specs.Key.{Key}
+use Rattle.deny_toml.specs.Value.{entries_in, span_in}
 use Rattle.deny_toml.specs.value.Table.{Table}
 use Rattle.deny_toml.specs.value.Value.{Value}
 use Rattle.deny_cfg.specs.LabelSpans.{joined, of_some}
+use Rattle.deny_cfg.specs.Marks.{IsMarkIn}
+use Rattle.deny_cfg.specs.Marks.IsValueIn.{itself, in_item, below_key}
 use Rattle.deny_cfg_entries.specs.Table.{Entries, ReadsIn, ReadsIfThere, ReadsOr, ReadsTable}
 use Rattle.deny_cfg_entries.specs.Words.{ReadsList}
 
--- ---- parts of a value in a text
+-- ---- spans in a value
 
-abbrev pub Lie : List ℕ → List Span → Type 0
-Lie text spans = AllByRecursion (IsSpan text) spans
+-- what holds of each of some spans
+abbrev pub Lie : (Span → Type 0) → List Span → Type 0
+Lie P spans = AllByRecursion P spans
 
 abbrev pub starts : List Span → List ℕ
 starts spans = map (λ span. span.start) spans
 
-abbrev pub OccursAt : List ℕ → Option Value → Type 0
-OccursAt text None = Unit {0}
-OccursAt text (Some v) = OccursIn text v
+-- a span is a mark in the value that is there
+abbrev pub IsMarkAt : Option Value → Span → Type 0
+IsMarkAt None span = ⊥
+IsMarkAt (Some v) span = IsMarkIn v span
 
-abbrev pub EntriesOccur : List ℕ → Entries → Type 0
-EntriesOccur text entries = AllOfEntries (KeyOccurs text) (ValueOccurs text) entries
+-- a span is a mark in one of some values
+pub record IsMarkAmong (vs : List Value) (span : Span) : Type 0 where
+  pub value : Value
+  pub there : Contains vs value
+  pub mark : IsMarkIn value span
 
-pub holds_itself : (text : List ℕ) (v : Value) → OccursIn text v → ValueOccurs text v
-holds_itself text v (spans.value _ here below) = here
+-- a span is a mark in the value of an entry
+pub record IsMarkBelow (entries : Entries) (span : Span) : Type 0 where
+  pub entry : Key × Value
+  pub there : Contains entries entry
+  pub mark : IsMarkIn entry.1 span
 
-holds_below : (text : List ℕ) (v : Value) → OccursIn text v
-    → AllOfContent (KeyOccurs text) (ValueOccurs text) (layer_in v)
-holds_below text v (spans.value _ here below) = below
+pub mark_itself : (v : Value) → IsMarkIn v (span_in v)
+mark_itself v = record { part = v; inside = itself v; marks = inl refl }
 
-elements_by : (text : List ℕ) (l : Layer) (vs : List Value) → array_of l ≡ Some vs
-    → AllOfContent (KeyOccurs text) (ValueOccurs text) l → AllOfValues (KeyOccurs text) (ValueOccurs text) vs
-elements_by text l vs is (spans.scalar_content s) = cc
-elements_by text l vs is (spans.array_content ws all) =
-    subst (AllOfValues (KeyOccurs text) (ValueOccurs text)) (same_Some ws vs is) all
-elements_by text l vs is (spans.table_content t all) = cc
+-- the span of what is read from a value, which is that of the value
+pub own_mark : (v : Value) (span : Span) → span ≡ span_in v → Lie (IsMarkIn v) (span ∷ [])
+own_mark v span same = (subst (IsMarkIn v) (sym same) (mark_itself v), tt)
 
-each_holds : (text : List ℕ) (vs : List Value) → AllOfValues (KeyOccurs text) (ValueOccurs text) vs
-    → AllByRecursion (OccursIn text) vs
-each_holds text vs spans.no_values = tt
-each_holds text vs (spans.values v more here all) = (here, each_holds text more all)
+mark_in_item : (v : Value) (vs : List Value) → array_in v ≡ Some vs → (span : Span) → IsMarkAmong vs span
+    → IsMarkIn v span
+mark_in_item v vs is span among = record {
+  part = among.mark.part;
+  inside = in_item v among.value among.mark.part vs is among.there among.mark.inside;
+  marks = among.mark.marks;
+}
 
-pub elements_hold : (text : List ℕ) (v : Value) (vs : List Value) → array_in v ≡ Some vs → OccursIn text v
-    → AllByRecursion (OccursIn text) vs
-elements_hold text v vs is holds =
-    each_holds text vs (elements_by text (layer_in v) vs is (holds_below text v holds))
+mark_in_entry : (v : Value) (t : Table) → table_in v ≡ Some t → (span : Span) → IsMarkBelow (entries_in t) span
+    → IsMarkIn v span
+mark_in_entry v t is span below = record {
+  part = below.mark.part;
+  inside = below_key v below.entry.1 below.mark.part t below.entry.0 is below.there below.mark.inside;
+  marks = below.mark.marks;
+}
 
-entries_by : (text : List ℕ) (l : Layer) (t : Table) → table_of l ≡ Some t
-    → AllOfContent (KeyOccurs text) (ValueOccurs text) l → EntriesOccur text (entries_in t)
-entries_by text l t is (spans.scalar_content s) = cc
-entries_by text l t is (spans.array_content ws all) = cc
-entries_by text l t is (spans.table_content u all) =
-    subst (λ w. EntriesOccur text (entries_in w)) (same_Some u t is) all
-
-pub entries_hold : (text : List ℕ) (v : Value) (t : Table) → table_in v ≡ Some t → OccursIn text v
-    → EntriesOccur text (entries_in t)
-entries_hold text v t is holds = entries_by text (layer_in v) t is (holds_below text v holds)
-
-pub at_holds : (text name : List ℕ) (entries : Entries) → EntriesOccur text entries
-    → OccursAt text (value_at name entries)
-at_holds text name entries spans.no_entries = tt
-at_holds text name entries (spans.entries k v more key here all) =
-    by_test (has_name name (k, v)) (at_holds text name more all)
+mark_at_key : (name : List ℕ) (entries : Entries) (span : Span) → IsMarkAt (value_at name entries) span
+    → IsMarkBelow entries span
+mark_at_key name entries span mark = by_entry (entry_at name entries) refl mark
   where
-    by_test : (b : Bool) → OccursAt text (value_at name more)
-        → OccursAt text (option_map (λ e. e.1) (cond b (Some (k, v)) (find (has_name name) more)))
-    by_test true later = here
-    by_test false later = later
+    by_entry : (o : Option (Key × Value)) → entry_at name entries ≡ o → IsMarkAt (option_map (λ e. e.1) o) span
+        → IsMarkBelow entries span
+    by_entry None is mark = absurd mark
+    by_entry (Some e) is mark =
+        record { entry = e; there = found_member (has_name name) entries e is; mark = mark }
 
-without_holds : (text name : List ℕ) (entries : Entries) → EntriesOccur text entries
-    → EntriesOccur text (without name entries)
+pub items_inside : (v : Value) (vs : List Value) (spans : List Span) → array_in v ≡ Some vs
+    → Lie (IsMarkAmong vs) spans → Lie (IsMarkIn v) spans
+items_inside v vs spans is = all_weaker (IsMarkAmong vs) (IsMarkIn v) (mark_in_item v vs is) spans
+
+pub entries_inside : (v : Value) (t : Table) (spans : List Span) → table_in v ≡ Some t
+    → Lie (IsMarkBelow (entries_in t)) spans → Lie (IsMarkIn v) spans
+entries_inside v t spans is = all_weaker (IsMarkBelow (entries_in t)) (IsMarkIn v) (mark_in_entry v t is) spans
+
+pub key_inside : (name : List ℕ) (entries : Entries) (spans : List Span) → Lie (IsMarkAt (value_at name entries)) spans
+    → Lie (IsMarkBelow entries) spans
+key_inside name entries spans =
+    all_weaker (IsMarkAt (value_at name entries)) (IsMarkBelow entries) (mark_at_key name entries) spans
+
+-- an empty table has no marks
+pub nothing_below : (spans : List Span) (P : Span → Type 0) → Lie (IsMarkBelow []) spans → Lie P spans
+nothing_below spans P = all_weaker (IsMarkBelow []) P (λ span below. absurd (no_member below.entry below.there)) spans
+
+pub name_inside : (name : List ℕ) (v : Value) (spans : List Span) → Lie (IsMarkAt (below_name name v)) spans
+    → Lie (IsMarkIn v) spans
+name_inside name v spans inside = by_table (table_in v) refl inside
+  where
+    by_table : (o : Option Table) → table_in v ≡ o
+        → Lie (IsMarkAt (option_and_then (λ t. value_at name (entries_in t)) o)) spans → Lie (IsMarkIn v) spans
+    by_table None is inside = all_weaker (λ span. ⊥) (IsMarkIn v) (λ span none. absurd none) spans inside
+    by_table (Some t) is inside = entries_inside v t spans is (key_inside name (entries_in t) spans inside)
+
+first_inside : (v : Value) (vs : List Value) (spans : List Span) → Lie (IsMarkIn v) spans
+    → Lie (IsMarkAmong (v ∷ vs)) spans
+first_inside v vs spans =
+    all_weaker (IsMarkIn v) (IsMarkAmong (v ∷ vs))
+    (λ span mark. record { value = v; there = Contains-first v vs; mark = mark }) spans
+
+rest_inside : (v : Value) (vs : List Value) (spans : List Span) → Lie (IsMarkAmong vs) spans
+    → Lie (IsMarkAmong (v ∷ vs)) spans
+rest_inside v vs spans =
+    all_weaker (IsMarkAmong vs) (IsMarkAmong (v ∷ vs))
+    (λ span among. record {
+      value = among.value;
+      there = Contains-rest v vs among.value among.there;
+      mark = among.mark;
+    }) spans
+
+-- what is read from the values of a list, item by item
+pub each_inside : {T : Type 0} (f : T → List Span) (Reads : Value → T → Type 0)
+    → ((v : Value) (x : T) → Reads v x → Lie (IsMarkIn v) (f x))
+    → (vs : List Value) (xs : List T) → ReadsEach Reads vs xs → Lie (IsMarkAmong vs) (flat_map f xs)
+each_inside f Reads each [] [] reads = tt
+each_inside f Reads each [] (x ∷ xs) reads = absurd reads
+each_inside f Reads each (v ∷ vs) [] reads = absurd reads
+each_inside f Reads each (v ∷ vs) (x ∷ xs) reads =
+    all_append (IsMarkAmong (v ∷ vs)) (f x) (flat_map f xs)
+    (first_inside v vs (f x) (each v x reads.0))
+    (rest_inside v vs (flat_map f xs) (each_inside f Reads each vs xs reads.1))
+
+pub list_inside : {T : Type 0} (f : T → List Span) (Reads : Value → T → Type 0)
+    → ((v : Value) (x : T) → Reads v x → Lie (IsMarkIn v) (f x))
+    → (v : Value) (xs : List T) → ReadsList Reads v xs → Lie (IsMarkIn v) (flat_map f xs)
+list_inside f Reads each v xs reads = by_array (array_in v) refl reads
+  where
+    by_array : (o : Option (List Value)) → array_in v ≡ o → ReadsArray Reads o xs → Lie (IsMarkIn v) (flat_map f xs)
+    by_array None is reads = absurd reads
+    by_array (Some vs) is reads = items_inside v vs (flat_map f xs) is (each_inside f Reads each vs xs reads)
+
+pub table_inside : {T : Type 0} (spans : List Span) (Reads : Entries → T → Type 0) (x : T)
+    → ((entries : Entries) → Reads entries x → Lie (IsMarkBelow entries) spans)
+    → (v : Value) → ReadsTable Reads v x → Lie (IsMarkIn v) spans
+table_inside spans Reads x each v reads = by_table (table_in v) refl reads
+  where
+    by_table : (o : Option Table) → table_in v ≡ o → ReadsIn Reads o x → Lie (IsMarkIn v) spans
+    by_table None is reads = absurd reads
+    by_table (Some t) is reads = entries_inside v t spans is (each (entries_in t) reads)
+
+mark_taken : (name : List ℕ) (entries : Entries) (e : Key × Value) → Contains (without name entries) e
+    → Contains entries e
 unfolding without
-without_holds text name entries spans.no_entries = spans.no_entries
-without_holds text name entries (spans.entries k v more key here all) =
-    by_test (has_name name (k, v)) (without_holds text name more all)
+mark_taken name [] e is = is
+mark_taken name (d ∷ ds) e is = by_test (has_name name d) (mark_taken name ds e) is
   where
-    by_test : (b : Bool) → EntriesOccur text (without name more)
-        → EntriesOccur text (cond b more ((k, v) ∷ without name more))
-    by_test true later = all
-    by_test false later = spans.entries k v (without name more) key here later
+    by_test : (b : Bool) → (Contains (without name ds) e → Contains ds e)
+        → Contains (cond b ds (d ∷ without name ds)) e → Contains (d ∷ ds) e
+    by_test true later is = Contains-rest d ds e is
+    by_test false later is =
+        Contains-by_cases d (without name ds) e is
+        (λ same. subst (Contains (d ∷ ds)) same (Contains-first d ds))
+        (λ more. Contains-rest d ds e (later more))
+
+without_inside : (name : List ℕ) (entries : Entries) (spans : List Span)
+    → Lie (IsMarkBelow (without name entries)) spans → Lie (IsMarkBelow entries) spans
+without_inside name entries spans =
+    all_weaker (IsMarkBelow (without name entries)) (IsMarkBelow entries)
+    (λ span below. record {
+      entry = below.entry;
+      there = mark_taken name entries below.entry below.there;
+      mark = below.mark;
+    }) spans
 
 times_taken : (name : List ℕ) (entries : Entries) (x : ℕ)
     → times x (starts_at entries name) + times x (starts_of_entries (without name entries))
@@ -121,25 +205,17 @@ times_taken name (e ∷ es) x = by_test (has_name name e) (times_taken name es x
 
 -- ---- the spans of what is read
 
-pub record Within (text : List ℕ) (v : Value) (spans : List Span) : Type 0 where
-  pub lie : OccursIn text v → Lie text spans
+pub record Within (v : Value) (spans : List Span) : Type 0 where
+  pub inside : Lie (IsMarkIn v) spans
   pub part : IsPartOf (starts spans) (starts_in v)
 
-pub record WithinKey (text : List ℕ) (o : Option Value) (spans : List Span) : Type 0 where
-  pub lie : OccursAt text o → Lie text spans
+pub record WithinKey (o : Option Value) (spans : List Span) : Type 0 where
+  pub inside : Lie (IsMarkAt o) spans
   pub part : IsPartOf (starts spans) (starts_of o)
 
-pub record WithinKeys (text : List ℕ) (entries : Entries) (spans : List Span) : Type 0 where
-  pub lie : EntriesOccur text entries → Lie text spans
+pub record WithinKeys (entries : Entries) (spans : List Span) : Type 0 where
+  pub inside : Lie (IsMarkBelow entries) spans
   pub part : IsPartOf (starts spans) (starts_of_entries entries)
-
-record WithinEach (text : List ℕ) (vs : List Value) (spans : List Span) : Type 0 where
-  pub lie : AllByRecursion (OccursIn text) vs → Lie text spans
-  pub part : IsPartOf (starts spans) (flat_map starts_in vs)
-
-pub lie_append : (text : List ℕ) (xs ys : List Span) → Lie text xs → Lie text ys → Lie text (xs ++ ys)
-lie_append text [] ys one other = other
-lie_append text (x ∷ xs) ys one other = (one.0, lie_append text xs ys one.1 other)
 
 part_both : (xs ys : List Span) (ns ms : List ℕ) → IsPartOf (starts xs) ns → IsPartOf (starts ys) ms
     → IsPartOf (starts (xs ++ ys)) (ns ++ ms)
@@ -147,77 +223,80 @@ part_both xs ys ns ms one other =
     subst (λ zs. IsPartOf zs (ns ++ ms)) (sym (map-append (λ (span : Span). span.start) xs ys))
     (parts_append (starts xs) (starts ys) ns ms one other)
 
-pub key_at : (text : List ℕ) (v : Value) (spans : List Span) → Within text v spans → WithinKey text (Some v) spans
-key_at text v spans within = record { lie = within.lie; part = within.part }
+pub key_at : (v : Value) (spans : List Span) → Within v spans → WithinKey (Some v) spans
+key_at v spans within = record { inside = within.inside; part = within.part }
 
-key_none : (text : List ℕ) (o : Option Value) → WithinKey text o []
-key_none text o = record { lie = λ _. tt; part = part_nothing (starts_of o) }
+key_none : (o : Option Value) → WithinKey o []
+key_none o = record { inside = tt; part = part_nothing (starts_of o) }
 
-pub optional_within : {T : Type 0} (text : List ℕ) (f : T → List Span) (Reads : Value → T → Type 0)
-    → ((v : Value) (x : T) → Reads v x → Within text v (f x))
-    → (o : Option Value) (read : Option T) → ReadsIfThere Reads o read → WithinKey text o (of_some f read)
-optional_within text f Reads each None read reads =
-    subst (λ r. WithinKey text None (of_some f r)) (sym reads) (key_none text None)
-optional_within text f Reads each (Some v) None reads = absurd reads
-optional_within text f Reads each (Some v) (Some x) reads = key_at text v (f x) (each v x reads)
+pub optional_within : {T : Type 0} (f : T → List Span) (Reads : Value → T → Type 0)
+    → ((v : Value) (x : T) → Reads v x → Within v (f x))
+    → (o : Option Value) (read : Option T) → ReadsIfThere Reads o read → WithinKey o (of_some f read)
+optional_within f Reads each None read reads =
+    subst (λ r. WithinKey None (of_some f r)) (sym reads) (key_none None)
+optional_within f Reads each (Some v) None reads = absurd reads
+optional_within f Reads each (Some v) (Some x) reads = key_at v (f x) (each v x reads)
 
-pub or_within : {T : Type 0} (text : List ℕ) (f : T → List Span) (default : T) (Reads : Value → T → Type 0)
-    → f default ≡ [] → ((v : Value) (x : T) → Reads v x → Within text v (f x))
-    → (o : Option Value) (x : T) → ReadsOr default Reads o x → WithinKey text o (f x)
-or_within text f default Reads none each None x reads =
-    subst (WithinKey text None) (sym none ∙ ap f (sym reads)) (key_none text None)
-or_within text f default Reads none each (Some v) x reads = key_at text v (f x) (each v x reads)
+pub or_within : {T : Type 0} (f : T → List Span) (default : T) (Reads : Value → T → Type 0)
+    → f default ≡ [] → ((v : Value) (x : T) → Reads v x → Within v (f x))
+    → (o : Option Value) (x : T) → ReadsOr default Reads o x → WithinKey o (f x)
+or_within f default Reads none each None x reads =
+    subst (WithinKey None) (sym none ∙ ap f (sym reads)) (key_none None)
+or_within f default Reads none each (Some v) x reads = key_at v (f x) (each v x reads)
 
-each_within : {T : Type 0} (text : List ℕ) (f : T → List Span) (Reads : Value → T → Type 0)
-    → ((v : Value) (x : T) → Reads v x → Within text v (f x))
-    → (vs : List Value) (xs : List T) → ReadsEach Reads vs xs → WithinEach text vs (flat_map f xs)
-each_within text f Reads each [] [] reads = record { lie = λ _. tt; part = part_nothing [] }
-each_within text f Reads each [] (x ∷ xs) reads = absurd reads
-each_within text f Reads each (v ∷ vs) [] reads = absurd reads
-each_within text f Reads each (v ∷ vs) (x ∷ xs) reads =
-    let first = each v x reads.0 in
-    let rest = each_within text f Reads each vs xs reads.1 in
-    record {
-      lie = λ hold. lie_append text (f x) (flat_map f xs) (first.lie hold.0) (rest.lie hold.1);
-      part = part_both (f x) (flat_map f xs) (starts_in v) (flat_map starts_in vs) first.part rest.part;
-    }
+each_part : {T : Type 0} (f : T → List Span) (Reads : Value → T → Type 0)
+    → ((v : Value) (x : T) → Reads v x → Within v (f x))
+    → (vs : List Value) (xs : List T) → ReadsEach Reads vs xs
+    → IsPartOf (starts (flat_map f xs)) (flat_map starts_in vs)
+each_part f Reads each [] [] reads = part_nothing []
+each_part f Reads each [] (x ∷ xs) reads = absurd reads
+each_part f Reads each (v ∷ vs) [] reads = absurd reads
+each_part f Reads each (v ∷ vs) (x ∷ xs) reads =
+    part_both (f x) (flat_map f xs) (starts_in v) (flat_map starts_in vs) (each v x reads.0).part
+    (each_part f Reads each vs xs reads.1)
 
-pub list_within : {T : Type 0} (text : List ℕ) (f : T → List Span) (Reads : Value → T → Type 0)
-    → ((v : Value) (x : T) → Reads v x → Within text v (f x))
-    → (v : Value) (xs : List T) → ReadsList Reads v xs → Within text v (flat_map f xs)
-list_within text f Reads each v xs reads = by_array (array_in v) refl reads
+list_part : {T : Type 0} (f : T → List Span) (Reads : Value → T → Type 0)
+    → ((v : Value) (x : T) → Reads v x → Within v (f x))
+    → (v : Value) (xs : List T) → ReadsList Reads v xs → IsPartOf (starts (flat_map f xs)) (starts_in v)
+list_part f Reads each v xs reads = by_array (array_in v) refl reads
   where
-    by_array : (o : Option (List Value)) → array_in v ≡ o → ReadsArray Reads o xs → Within text v (flat_map f xs)
+    by_array : (o : Option (List Value)) → array_in v ≡ o → ReadsArray Reads o xs
+        → IsPartOf (starts (flat_map f xs)) (starts_in v)
     by_array None is reads = absurd reads
     by_array (Some vs) is reads =
-        let all = each_within text f Reads each vs xs reads in
-        record {
-          lie = λ holds. all.lie (elements_hold text v vs is holds);
-          part = subst (IsPartOf (starts (flat_map f xs))) (sym (starts_of_elements v vs is)) all.part;
-        }
+        subst (IsPartOf (starts (flat_map f xs))) (sym (starts_of_elements v vs is))
+        (each_part f Reads each vs xs reads)
 
-pub table_within : {T : Type 0} (text : List ℕ) (spans : List Span) (Reads : Entries → T → Type 0) (x : T)
-    → ((entries : Entries) → Reads entries x → WithinKeys text entries spans)
-    → (v : Value) → ReadsTable Reads v x → Within text v spans
-table_within text spans Reads x each v reads = by_table (table_in v) refl reads
+pub list_within : {T : Type 0} (f : T → List Span) (Reads : Value → T → Type 0)
+    → ((v : Value) (x : T) → Reads v x → Within v (f x))
+    → (v : Value) (xs : List T) → ReadsList Reads v xs → Within v (flat_map f xs)
+list_within f Reads each v xs reads = record {
+  inside = list_inside f Reads (λ w x read. (each w x read).inside) v xs reads;
+  part = list_part f Reads each v xs reads;
+}
+
+pub table_within : {T : Type 0} (spans : List Span) (Reads : Entries → T → Type 0) (x : T)
+    → ((entries : Entries) → Reads entries x → WithinKeys entries spans)
+    → (v : Value) → ReadsTable Reads v x → Within v spans
+table_within spans Reads x each v reads = by_table (table_in v) refl reads
   where
-    by_table : (o : Option Table) → table_in v ≡ o → ReadsIn Reads o x → Within text v spans
+    by_table : (o : Option Table) → table_in v ≡ o → ReadsIn Reads o x → Within v spans
     by_table None is reads = absurd reads
     by_table (Some t) is reads =
         let all = each (entries_in t) reads in
         record {
-          lie = λ holds. all.lie (entries_hold text v t is holds);
+          inside = entries_inside v t spans is all.inside;
           part = subst (IsPartOf (starts spans)) (sym (starts_of_keys v t is)) all.part;
         }
 
 -- ---- the keys of a table
 
-pub put_key : (text name : List ℕ) (entries : Entries) (xs ys : List Span) → WithinKey text (value_at name entries) xs
-    → WithinKeys text (without name entries) ys → WithinKeys text entries (xs ++ ys)
-put_key text name entries xs ys first rest = record {
-  lie =
-      λ hold. lie_append text xs ys (first.lie (at_holds text name entries hold))
-      (rest.lie (without_holds text name entries hold));
+pub put_key : (name : List ℕ) (entries : Entries) (xs ys : List Span) → WithinKey (value_at name entries) xs
+    → WithinKeys (without name entries) ys → WithinKeys entries (xs ++ ys)
+put_key name entries xs ys first rest = record {
+  inside =
+      all_append (IsMarkBelow entries) xs ys (key_inside name entries xs first.inside)
+      (without_inside name entries ys rest.inside);
   part = λ x.
       omega (
         arith,
@@ -229,41 +308,38 @@ put_key text name entries xs ys first rest = record {
       );
 }
 
-pub skip_key : (text name : List ℕ) (entries : Entries) (ys : List Span) → WithinKeys text (without name entries) ys
-    → WithinKeys text entries ys
-skip_key text name entries ys rest = put_key text name entries [] ys (key_none text (value_at name entries)) rest
+pub skip_key : (name : List ℕ) (entries : Entries) (ys : List Span) → WithinKeys (without name entries) ys
+    → WithinKeys entries ys
+skip_key name entries ys rest = put_key name entries [] ys (key_none (value_at name entries)) rest
 
-pub no_keys : (text : List ℕ) (entries : Entries) → WithinKeys text entries []
-no_keys text entries = record { lie = λ hold. tt; part = part_nothing (starts_of_entries entries) }
+pub no_keys : (entries : Entries) → WithinKeys entries []
+no_keys entries = record { inside = tt; part = part_nothing (starts_of_entries entries) }
 
-pub one_key : (text name : List ℕ) (entries : Entries) (xs : List Span) → WithinKey text (value_at name entries) xs
-    → WithinKeys text entries xs
-one_key text name entries xs within =
-    subst (WithinKeys text entries) (append-nil xs)
-    (put_key text name entries xs [] within (no_keys text (without name entries)))
-
-pub no_entries_hold : (text : List ℕ) → EntriesOccur text []
-no_entries_hold text = spans.no_entries
+pub one_key : (name : List ℕ) (entries : Entries) (xs : List Span) → WithinKey (value_at name entries) xs
+    → WithinKeys entries xs
+one_key name entries xs within =
+    subst (WithinKeys entries) (append-nil xs)
+    (put_key name entries xs [] within (no_keys (without name entries)))
 
 -- what is read from these keys, in order, has its spans within the values of the table at them
-pub data EachKey (text : List ℕ) (entries : Entries) : List (List ℕ) → List (List Span) → Type 0 where
-  no_more : EachKey text entries [] []
+pub data EachKey (entries : Entries) : List (List ℕ) → List (List Span) → Type 0 where
+  no_more : EachKey entries [] []
   ◌▸◌ : {n : List ℕ} {ns : List (List ℕ)} {xs : List Span} {xss : List (List Span)}
-      → WithinKey text (value_at n entries) xs → EachKey text entries ns xss → EachKey text entries (n ∷ ns) (xs ∷ xss)
+      → WithinKey (value_at n entries) xs → EachKey entries ns xss → EachKey entries (n ∷ ns) (xs ∷ xss)
 
 infixr 4 ◌▸◌
-keys_lie : (text : List ℕ) (entries : Entries) {ns : List (List ℕ)} {xss : List (List Span)}
-    → EachKey text entries ns xss → EntriesOccur text entries → Lie text (joined xss)
-keys_lie text entries no_more hold = tt
-keys_lie text entries (◌▸◌ {n = n} {xs = xs} {xss = xss} first more) hold =
-    lie_append text xs (joined xss) (first.lie (at_holds text n entries hold)) (keys_lie text entries more hold)
+keys_inside : (entries : Entries) {ns : List (List ℕ)} {xss : List (List Span)}
+    → EachKey entries ns xss → Lie (IsMarkBelow entries) (joined xss)
+keys_inside entries no_more = tt
+keys_inside entries (◌▸◌ {n = n} {xs = xs} {xss = xss} first more) =
+    all_append (IsMarkBelow entries) xs (joined xss) (key_inside n entries xs first.inside) (keys_inside entries more)
 
-keys_part : (text : List ℕ) (entries : Entries) {ns : List (List ℕ)} {xss : List (List Span)}
-    → EachKey text entries ns xss → IsPartOf (starts (joined xss)) (flat_map (starts_at entries) ns)
-keys_part text entries no_more = part_nothing []
-keys_part text entries (◌▸◌ {n = n} {ns = ns} {xs = xs} {xss = xss} first more) =
+keys_part : (entries : Entries) {ns : List (List ℕ)} {xss : List (List Span)}
+    → EachKey entries ns xss → IsPartOf (starts (joined xss)) (flat_map (starts_at entries) ns)
+keys_part entries no_more = part_nothing []
+keys_part entries (◌▸◌ {n = n} {ns = ns} {xs = xs} {xss = xss} first more) =
     part_both xs (joined xss) (starts_at entries n) (flat_map (starts_at entries) ns) first.part
-    (keys_part text entries more)
+    (keys_part entries more)
 
 -- whether names differ
 abbrev pub is_new_name : List ℕ → List (List ℕ) → Bool
@@ -287,11 +363,11 @@ distinct_names [] e = tt
 distinct_names (n ∷ ns) e =
     let parts = and_parts (is_new_name n ns) (are_distinct ns) e in (new_name n ns parts.0, distinct_names ns parts.1)
 
-pub keys_within : (text : List ℕ) (entries : Entries) {ns : List (List ℕ)} {xss : List (List Span)}
-    → EachKey text entries ns xss → are_distinct ns ≡ true → WithinKeys text entries (joined xss)
-keys_within text entries {ns} {xss} each apart = record {
-  lie = keys_lie text entries each;
+pub keys_within : (entries : Entries) {ns : List (List ℕ)} {xss : List (List Span)}
+    → EachKey entries ns xss → are_distinct ns ≡ true → WithinKeys entries (joined xss)
+keys_within entries {ns} {xss} each apart = record {
+  inside = keys_inside entries each;
   part =
       part_of_part (starts (joined xss)) (flat_map (starts_at entries) ns) (starts_of_entries entries)
-      (keys_part text entries each) (names_part ns entries (distinct_names ns apart));
+      (keys_part entries each) (names_part ns entries (distinct_names ns apart));
 }

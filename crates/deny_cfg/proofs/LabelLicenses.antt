@@ -1,4 +1,4 @@
--- The spans of licences and of exceptions lie in the text, and no two of them start at the same offset.
+-- The spans of licences and of exceptions are marks in the text's tree, and no two of them start at the same offset.
 use Rattle.std.proofs.Common.{ℕ, List, [], Option, refl}
 use Rattle.std.specs.List.{flat_map}
 use Rattle.deny_base.specs.declared.span.Spanned.{Spanned}
@@ -6,6 +6,7 @@ use Rattle.deny_spdx.specs.Meaning.{requirement_in}
 use Rattle.deny_spdx.specs.declared.requirement.Requirement.{Requirement}
 use Rattle.deny_toml.specs.Apart.{AreApart}
 use Rattle.deny_toml.specs.Calls.{below_name}
+use Rattle.deny_toml.specs.Parser.{IsTreeOf}
 use Rattle.deny_toml.specs.Spans.{OccursIn}
 use Rattle.deny_toml.specs.value.Value.{Value}
 use Rattle.deny_cfg_entries.specs.Depends.{keys-depend}
@@ -28,43 +29,43 @@ use Rattle.deny_cfg.proofs.LabelLaws.{◌▸◌, Within, WithinKey, WithinKeys, 
 use Rattle.deny_cfg.proofs.LabelLaws.{optional_within, or_within, table_within}
 use Rattle.deny_cfg.proofs.LabelReads.{entry_keys_within, meaning_within}
 
-licences_within : (text : List ℕ) (v : Value) (licences : List (Spanned Requirement)) → ReadsLicences v licences
-    → Within text v (flat_map own_span licences)
-licences_within text v licences reads =
-    list_within text own_span (ReadsSpanned (ReadsAs requirement_in)) (meaning_within text requirement_in) v licences
+licences_within : (v : Value) (licences : List (Spanned Requirement)) → ReadsLicences v licences
+    → Within v (flat_map own_span licences)
+licences_within v licences reads =
+    list_within own_span (ReadsSpanned (ReadsAs requirement_in)) (meaning_within requirement_in) v licences
     reads
 
-exception_within : (text : List ℕ) (v : Value) (e : Exception) → ReadsException v e → Within text v (exception_span e)
-exception_within text v e reads =
-    table_within text (exception_span e)
+exception_within : (v : Value) (e : Exception) → ReadsException v e → Within v (exception_span e)
+exception_within v e reads =
+    table_within (exception_span e)
     (λ entries (read : Exception). ReadsEntryKeys ReadsExceptionKeys entries read.spec (record { allow = read.allow }))
     e
-    (entry_keys_within text exception_fields exception_entry-apart ReadsExceptionKeys (keys-depend exception_keys) []
-    e.spec (record { allow = e.allow }) (λ entries said. no_keys text entries)) v reads
+    (entry_keys_within exception_fields exception_entry-apart ReadsExceptionKeys (keys-depend exception_keys) []
+    e.spec (record { allow = e.allow }) (λ entries said. no_keys entries)) v reads
 
-licenses_within : (text : List ℕ) (entries : Entries) (config : Config) → ReadsLicenses entries config
-    → WithinKeys text entries (licence_labels config)
+licenses_within : (entries : Entries) (config : Config) → ReadsLicenses entries config
+    → WithinKeys entries (licence_labels config)
 unfolding name_of licence_labels
-licenses_within text entries config reads =
-    keys_within text entries (
-    or_within text (flat_map own_span) [] ReadsLicences refl (licences_within text) (at_key key.Allow entries)
+licenses_within entries config reads =
+    keys_within entries (
+    or_within (flat_map own_span) [] ReadsLicences refl licences_within (at_key key.Allow entries)
     config.allow (says_of key.Allow reads)
-    ▸ or_within text (flat_map exception_span) [] (ReadsList ReadsException) refl
-    (list_within text exception_span ReadsException (exception_within text)) (at_key key.Exceptions entries)
+    ▸ or_within (flat_map exception_span) [] (ReadsList ReadsException) refl
+    (list_within exception_span ReadsException exception_within) (at_key key.Exceptions entries)
     config.exceptions (says_of key.Exceptions reads)
     ▸ no_more) refl
 
 -- what is read from the table `licenses`, within the root
-licensing_within : (text : List ℕ) (o : Option Value) (licensing : Option Config) → ReadsLicensing o licensing
-    → WithinKey text o (licence_spans licensing)
-licensing_within text o licensing reads =
-    optional_within text licence_labels (ReadsTable ReadsLicenses)
-    (λ v config. table_within text (licence_labels config) ReadsLicenses config
-    (λ entries. licenses_within text entries config) v) o licensing reads
+licensing_within : (o : Option Value) (licensing : Option Config) → ReadsLicensing o licensing
+    → WithinKey o (licence_spans licensing)
+licensing_within o licensing reads =
+    optional_within licence_labels (ReadsTable ReadsLicenses)
+    (λ v config. table_within (licence_labels config) ReadsLicenses config
+    (λ entries. licenses_within entries config) v) o licensing reads
 
-pub licensing_are_labels : (text : List ℕ) (tree : Value) (licensing : Option Config) → OccursIn text tree
-    → AreApart tree → ReadsLicensing (below_name licenses_name tree) licensing
+pub licensing_are_labels : (text : List ℕ) (tree : Value) (licensing : Option Config) → IsTreeOf text tree
+    → OccursIn text tree → AreApart tree → ReadsLicensing (below_name licenses_name tree) licensing
     → AreLabels text (licence_spans licensing)
-licensing_are_labels text tree licensing holds apart reads =
-    key_are_labels text licenses_name tree (licence_spans licensing) holds apart
-    (licensing_within text (below_name licenses_name tree) licensing reads)
+licensing_are_labels text tree licensing is_tree holds apart reads =
+    key_are_labels text licenses_name tree (licence_spans licensing) is_tree holds apart
+    (licensing_within (below_name licenses_name tree) licensing reads)

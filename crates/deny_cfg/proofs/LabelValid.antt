@@ -6,12 +6,13 @@ use Rattle.std.specs.List.{flat_map}
 use Rattle.std.proofs.lemmas.List.{get_or-map, length-map}
 use Rattle.std.proofs.lemmas.List.Elements.{recursion_from_All}
 use Rattle.deny_base.specs.declared.span.Span.{Span}
+use Rattle.deny_base_lists.proofs.Each.{all_append}
 use Rattle.deny_base.specs.declared.span.Spanned.{Spanned}
 use Rattle.deny_spec.specs.Policy.{SpannedText}
 use Rattle.deny_toml.proofs.ApartParts.{AreDistinct}
-use Rattle.deny_toml.specs.Spans.{IsSpan}
 use Rattle.deny_cfg.specs.Clashes.{is_ban}
 use Rattle.deny_cfg.specs.LabelSpans.{AreLabels, ban_spans, build_spans}
+use Rattle.deny_cfg.specs.Marks.{IsPolicySpan}
 use Rattle.deny_cfg.specs.private.LabelSpans.{config_labels, crate_ban_spans}
 use Rattle.deny_cfg.specs.LabelSpans.{of_some, own_span, reason_span}
 use Rattle.deny_cfg.specs.private.LabelSpans.{crate_feature_spans}
@@ -28,7 +29,7 @@ use Rattle.deny_cfg.proofs.Among.{Among, among_both, among_itself, among_joined,
 use Rattle.deny_cfg.proofs.Among.{lie_prefix, lie_rest, times_both}
 use Rattle.deny_cfg.proofs.BuildAmong.{built_among}
 use Rattle.deny_cfg.proofs.LabelConfig.{are_labels}
-use Rattle.deny_cfg.proofs.LabelLaws.{lie_append, starts}
+use Rattle.deny_cfg.proofs.LabelLaws.{starts}
 
 -- ---- bans without their flags, beside the other entries
 
@@ -60,7 +61,7 @@ ban_among e =
 spec_among : (e : PackageSpecOrExtended CrateBanExtended) → Among (spec_span e.spec) (with_spec crate_ban_spans e)
 spec_among e =
     record {
-      lie = λ text lie. (lie.0, tt);
+      lie = λ P lie. (lie.0, tt);
       part = λ x. omega
           (arith, times_both (spec_span e.spec) (of_some crate_ban_spans e.inner) x);
     }
@@ -79,10 +80,10 @@ among_first xs ns ms zs ws one rest =
 
 among_second : (xs ns ms zs ws : List Span) → Among xs zs → Among (ns ++ ms) ws → Among (ns ++ (xs ++ ms)) (zs ++ ws)
 among_second xs ns ms zs ws one rest = record {
-  lie = λ text lie.
-      let sides = rest.lie text (lie_rest text zs ws lie) in
-      lie_append text ns (xs ++ ms) (lie_prefix text ns ms sides)
-      (lie_append text xs ms (one.lie text (lie_prefix text zs ws lie)) (lie_rest text ns ms sides));
+  lie = λ P lie.
+      let sides = rest.lie P (lie_rest P zs ws lie) in
+      all_append P ns (xs ++ ms) (lie_prefix P ns ms sides)
+      (all_append P xs ms (one.lie P (lie_prefix P zs ws lie)) (lie_rest P ns ms sides));
   part =
       λ x. omega (
         arith,
@@ -191,7 +192,7 @@ distinct_starts spans apart = λ i j d below within same.
 
 pub labels_among : (text : List ℕ) (xs ys : List Span) → Among xs ys → AreLabels text ys → AreLabels text xs
 labels_among text xs ys among labels =
-    are_labels text xs (starts ys) (among.lie text (recursion_from_All (IsSpan text) ys labels.located)) among.part
+    are_labels text xs (starts ys) (among.lie (IsPolicySpan text) (recursion_from_All (IsPolicySpan text) ys labels.located)) among.part
     (distinct_starts ys labels.apart)
 
 pub valid_are_labels : (text : List ℕ) (config : Config) (file number : ℕ) (valid : ValidConfig)

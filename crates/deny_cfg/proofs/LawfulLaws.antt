@@ -23,7 +23,7 @@ use Rattle.deny_cfg.proofs.LabelValid.{labels_among}
 
 among_prefix : (xs ys : List Span) → Among xs (xs ++ ys)
 among_prefix xs ys = record {
-  lie = λ text lie. lie_prefix text xs ys lie;
+  lie = λ P lie. lie_prefix P xs ys lie;
   part = λ x. omega (arith, times_both xs ys x);
 }
 

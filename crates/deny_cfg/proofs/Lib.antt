@@ -13,6 +13,7 @@ pub mod LabelConfig
 pub mod LabelLaws
 pub mod LabelReads
 pub mod LabelLicenses
+pub mod MarkLaws
 pub mod PolicyLaws
 pub mod FirstSpansLaws
 pub mod ClashLaws

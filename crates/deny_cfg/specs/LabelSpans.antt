@@ -4,7 +4,6 @@ use Rattle.std.specs.List.{flat_map}
 use Rattle.deny_base.specs.declared.finding.Diagnostic.{Diagnostic}
 use Rattle.deny_base.specs.declared.span.Span.{Span}
 use Rattle.deny_base.specs.declared.span.Spanned.{Spanned}
-use Rattle.deny_toml.specs.Spans.{IsSpan}
 use Rattle.deny_cfg_build.specs.declared.glob_set.ValidGlobSet.{ValidGlobSet}
 use Rattle.deny_cfg_build.specs.declared.pattern.GlobPattern.{GlobPattern}
 use Rattle.deny_cfg_build.specs.declared.pattern.GlobPattern.TheVariants.{Builtin, User}
@@ -15,6 +14,7 @@ use Rattle.deny_cfg_tables.specs.declared.bans.cfg.std_replacements.StdReplaceme
 use Rattle.deny_cfg_tables.specs.declared.bans.cfg.tree_skip.TreeSkipExtended.{TreeSkipExtended}
 use Rattle.deny_cfg_tables.specs.declared.licenses.config.Config as licenses
 use Rattle.deny_cfg_tables.specs.declared.licenses.exception.Exception.{Exception}
+use Rattle.deny_cfg.specs.Marks.{IsPolicySpan}
 use Rattle.deny_cfg.specs.declared.bans.cfg.valid.KrateBan.{KrateBan}
 use Rattle.deny_cfg.specs.declared.bans.cfg.valid.ValidConfig.{ValidConfig}
 use Rattle.deny_cfg.specs.declared.bans.cfg.valid.ValidKrateFeatures.{ValidKrateFeatures}
@@ -127,9 +127,10 @@ licence_labels config = joined (flat_map own_span config.allow ∷ flat_map exce
 abbrev pub licence_spans : Option licenses.Config → List Span
 licence_spans licensing = of_some licence_labels licensing
 
--- These spans lie in the text, and no two of them start at the same offset.
+-- Each of these spans lies in the text and is that of a value of its tree or of a name in one, and no two of them start
+-- at the same offset.
 pub record AreLabels (text : List ℕ) (spans : List Span) : Type 0 where
-  pub located : All (IsSpan text) spans
+  pub located : All (IsPolicySpan text) spans
   pub apart : AllPairs (λ one other. one.start ≢ other.start) spans
 
 -- the span of the older key that stands for the table `build`

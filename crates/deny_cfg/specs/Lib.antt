@@ -3,6 +3,7 @@ pub mod Deprecated
 pub mod LabelSpans
 pub mod Lawful
 pub mod LicensingView
+pub mod Marks
 pub mod PolicyText
 pub mod PolicyView
 pub mod Valid

@@ -21,6 +21,7 @@ use Rattle.deny_cfg.specs.Deprecated.{warnings_of}
 use Rattle.deny_cfg_tables.specs.Config.{ReadsConfig, faults_of_config}
 use Rattle.deny_cfg_tables.specs.Licenses.{ReadsLicenses, faults_of_licenses}
 use Rattle.deny_cfg.specs.LabelSpans.{reported_spans}
+use Rattle.deny_cfg.specs.Marks.{IsClashSpan}
 use Rattle.deny_cfg.specs.PolicyView.{builtin_file_of}
 use Rattle.deny_cfg.specs.declared.bans.cfg.valid.ValidConfig.{ValidConfig}
 use Rattle.deny_cfg_build.specs.Builtin.{builtin_file}
@@ -90,14 +91,15 @@ pub record IsPolicyOf (text : List ℕ) (file : ℕ) (policy : Policy) : Type 0 
   pub valid : IsValidOf config file (file + 1) policy.bans
   pub warnings : policy.warnings ≡ warnings_of file config
 
--- These diagnostics report the clashes of a text without faults. All labels lie in the text.
+-- These diagnostics report the clashes of a text without faults. All labels lie in the text, at values of its tree, at
+-- names in them, or at the byte of an extension that is not allowed.
 pub record ReportsClashes (text : List ℕ) (file : ℕ) (reported : List Diagnostic) : Type 0 where
   pub config : Config
   pub licensing : Option licenses.Config
   pub says : Says text config licensing
   pub some : reported ≢ []
   pub are : AreClashes text config file reported
-  pub located : All (IsSpan text) (reported_spans reported)
+  pub located : All (IsClashSpan text) (reported_spans reported)
 
 -- A text is no policy for this reason. An error for lack of memory says nothing of the text.
 abbrev pub IsNoPolicy : List ℕ → ℕ → PolicyError → Type 0

@@ -5,7 +5,7 @@ ghost use Rattle.deny_toml.specs.Apart.{AreApart};
 ghost use Rattle.deny_toml.specs.Calls.{below_name, value_at, without};
 ghost use Rattle.deny_toml.specs.Faults.{Reports, fault_at, in_order};
 ghost use Rattle.deny_toml.specs.Parser.{IsTreeOf};
-ghost use Rattle.deny_toml.specs.Spans.{IsSpan, OccursIn};
+ghost use Rattle.deny_toml.specs.Spans.{OccursIn};
 ghost use Rattle.deny_toml.specs.TableHelper.{optional_faults};
 ghost use Rattle.deny_cfg_tables.specs.Config.{faults_of_config};
 ghost use Rattle.deny_cfg_tables.specs.Licenses.{faults_of_licenses};
@@ -14,6 +14,7 @@ ghost use Rattle.deny_cfg.specs.LabelSpans.{AreLabels, licence_spans};
 ghost use Rattle.deny_cfg.specs.private.LabelSpans.{config_labels};
 ghost use Rattle.deny_cfg.specs.LabelSpans.{older_span, word_labels};
 ghost use Rattle.deny_cfg.specs.private.LabelSpans.{list_spans};
+ghost use Rattle.deny_cfg.specs.Marks.{IsPolicySpan};
 ghost use Rattle.deny_cfg.specs.Lawful.{IsLawful, IsLawfulLicensing};
 ghost use Rattle.deny_cfg.specs.PolicyText.{IsNoPolicy, IsPolicyOf, KeepsOnError, ListsFaults};
 ghost use Rattle.deny_cfg.specs.private.PolicyText.{AddsOnError, IsConfig};
@@ -213,7 +214,7 @@ fn tables_of(alloc: Global, text: &str) -> Result<Tables, PolicyError>
     requires small { length text.now < 2 ^ 28 }
     ensures says { IfOk result (λ tables. Says text.now tables.bans tables.licenses) }
     ensures labels { IfOk result (λ tables. AreLabels text.now (config_labels tables.bans)) }
-    ensures lists { IfOk result (λ tables. All (IsSpan text.now) (list_spans tables.bans)) }
+    ensures lists { IfOk result (λ tables. All (IsPolicySpan text.now) (list_spans tables.bans)) }
     ensures licence_labels { IfOk result (λ tables. AreLabels text.now (licence_spans tables.licenses)) }
     ensures faults { IfErr result (IsConfig (ListsFaults text.now)) }
 {
@@ -257,7 +258,7 @@ fn policy_of(
     requires last { length files.old ≡ file + 1 }
     ensures policy { IfOk result (IsPolicyOf text.now file) }
     ensures labels { IfOk result (λ policy. AreLabels text.now (word_labels policy.bans)) }
-    ensures older_key { IfOk result (λ policy. All (IsSpan text.now) (older_span policy.bans)) }
+    ensures older_key { IfOk result (λ policy. All (IsPolicySpan text.now) (older_span policy.bans)) }
     ensures lawful { IfOk result (λ policy. IsLawful policy.bans) }
     ensures licence_labels { IfOk result (λ policy. AreLabels text.now (licence_spans policy.licenses)) }
     ensures lawful_licences { IfOk result (λ policy. IfSome policy.licenses IsLawfulLicensing) }
@@ -298,7 +299,7 @@ pub fn read_policy(alloc: Global, bytes: &[u8], files: &mut Files) -> Result<Pol
     requires few { length files.old < 2 ^ 30 }
     ensures policy { IfOk result (IsPolicyOf bytes.now (length files.old)) }
     ensures labels { IfOk result (λ policy. AreLabels bytes.now (word_labels policy.bans)) }
-    ensures older_key { IfOk result (λ policy. All (IsSpan bytes.now) (older_span policy.bans)) }
+    ensures older_key { IfOk result (λ policy. All (IsPolicySpan bytes.now) (older_span policy.bans)) }
     ensures lawful { IfOk result (λ policy. IsLawful policy.bans) }
     ensures licence_labels { IfOk result (λ policy. AreLabels bytes.now (licence_spans policy.licenses)) }
     ensures lawful_licences { IfOk result (λ policy. IfSome policy.licenses IsLawfulLicensing) }

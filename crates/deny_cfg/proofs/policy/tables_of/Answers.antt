@@ -24,14 +24,15 @@ returns-in-Err-Faults-clause-faults c =
 
 pub returns-in-Ok-clause-labels : goal.returns-in-Ok-clause-labels
 returns-in-Ok-clause-labels c =
-    config_are_labels c.args.text.now c.in_ok-tree.tree c.in-Ok.tables.bans c.in_ok-tree.ensures.holds
+    config_are_labels c.args.text.now c.in_ok-tree.tree c.in-Ok.tables.bans c.in_ok-tree.ensures.tree c.in_ok-tree.ensures.holds
     c.in_ok-tree.ensures.apart c.in-Ok.ensures.bans
 
 pub returns-in-Ok-clause-lists : goal.returns-in-Ok-clause-lists
 returns-in-Ok-clause-lists c =
-    lists_lie c.args.text.now c.in_ok-tree.tree c.in-Ok.tables.bans c.in_ok-tree.ensures.holds c.in-Ok.ensures.bans
+    lists_lie c.args.text.now c.in_ok-tree.tree c.in-Ok.tables.bans c.in_ok-tree.ensures.tree c.in_ok-tree.ensures.holds c.in-Ok.ensures.bans
 
 pub returns-in-Ok-clause-licence_labels : goal.returns-in-Ok-clause-licence_labels
 returns-in-Ok-clause-licence_labels c =
-    licensing_are_labels c.args.text.now c.in_ok-tree.tree c.in-Ok.tables.licenses c.in_ok-tree.ensures.holds
+    licensing_are_labels c.args.text.now c.in_ok-tree.tree c.in-Ok.tables.licenses c.in_ok-tree.ensures.tree
+    c.in_ok-tree.ensures.holds
     c.in_ok-tree.ensures.apart c.in-Ok.ensures.licenses
