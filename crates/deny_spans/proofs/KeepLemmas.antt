@@ -15,8 +15,8 @@ use Rattle.deny_spans_manifest.specs.declared.declarations.ManifestDep.{Manifest
 use Rattle.deny_spans_manifest.specs.declared.manifest.Manifest.{Manifest}
 use Rattle.deny_spec.specs.Graph.{Crate, Graph}
 use Rattle.deny_spans.proofs.IdLemmas.{crate_found}
-use Rattle.deny_spans.proofs.ManifestScanLemmas.{file_of, kept_text}
-use Rattle.deny_spans.specs.ManifestScan.{kept_as, number_of}
+use Rattle.deny_spans.proofs.ManifestScanLemmas.{file_of}
+use Rattle.deny_spans.specs.ManifestScan.{kept_as, number_of, text_file}
 use Rattle.deny_spans.specs.private.Gathered.{IsKept, IsManifestRead, reading}
 use Rattle.deny_spans.specs.private.Workspace.{AreSharedIn, IsKeptAlone}
 use Rattle.deny_toml.specs.value.Value.{Value}
@@ -72,10 +72,10 @@ module _ (g : Graph) (place : ℕ) (k : Krate) (ids : AllPairs (λ c d. c.id ≢
 -- ---- texts as files
 
 -- a text that is UTF-8 adds one file
-file_more : (path text : List ℕ) (tree : Option Value) (number : ℕ) (old new : List File) → IsUtf8 text
-    → new ≡ old ++ file_of path text ∷ [] → new ≡ old ++ kept_as path (Some (reading text tree number))
-file_more path text tree number old new utf8 is =
-    is ∙ ap (λ fs. old ++ fs) (sym (kept_text path (reading text tree number) (is_utf8-from_IsUtf8 text utf8)))
+pub file_more : (path text : List ℕ) (old new : List File) → IsUtf8 text → new ≡ old ++ file_of path text ∷ []
+    → new ≡ old ++ text_file path text
+file_more path text old new utf8 is =
+    is ∙ ap (λ (b : Bool). old ++ cond b (file_of path text ∷ []) []) (sym (is_utf8-from_IsUtf8 text utf8))
 
 number_is : (text : List ℕ) (tree : Option Value) (number : ℕ) → IsUtf8 text
     → Some number ≡ number_of (Some (reading text tree number))
@@ -105,7 +105,7 @@ module _ (g : Graph) (c : Crate) (bytes : List ℕ) (old : List File) where
         texts = refl;
         reads = of.reads;
         numbered = refl;
-        files = file_more c.manifest_path bytes of.tree (length old) old new utf8
+        files = file_more c.manifest_path bytes old new utf8
             (added ∙ ap (λ t. old ++ file_of c.manifest_path t ∷ []) same);
         number = ap (λ n. Some n) is ∙ number_is bytes of.tree (length old) utf8;
         says = of.says;
@@ -134,7 +134,7 @@ module _ (g : Graph) (registries : List Registry) (path bytes : List ℕ) (old :
       record {
         tree = of.tree;
         reads = of.reads;
-        files = file_more path bytes of.tree (length old) old new utf8
+        files = file_more path bytes old new utf8
             (added ∙ ap (λ t. old ++ file_of path t ∷ []) same);
         is = record { id = ap (λ n. Some n) is ∙ number_is bytes of.tree (length old) utf8; deps = of.are };
       }

@@ -1,3 +1,4 @@
+pub mod BegunLemmas
 pub mod CountLemmas
 pub mod FoundLemmas
 pub mod GatherLemmas

@@ -1,3 +1,4 @@
+pub mod Begun
 pub mod ManifestScan
 pub mod OneView
 pub mod Paths

@@ -54,9 +54,13 @@ IsBroken read = IsSomeAnd read (λ r. r.tree ≡ None)
 -- ---- files
 
 -- the file that a text from a path is kept as, where it is UTF-8
+abbrev pub text_file : List ℕ → List ℕ → List File
+text_file path text = if is_utf8 text then record { path = path; source = text } ∷ [] else []
+
+-- the file that what was read from a path is kept as
 abbrev pub kept_as : List ℕ → Option Reading → List File
 kept_as path None = []
-kept_as path (Some r) = if is_utf8 r.text then record { path = path; source = r.text } ∷ [] else []
+kept_as path (Some r) = text_file path r.text
 
 unfoldable pub kept_of : ManifestScan → List File
 kept_of l = kept_as l.crate.manifest_path l.read

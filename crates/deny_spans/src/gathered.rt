@@ -1,11 +1,14 @@
 //! The manifests of crates, as they are read one after another.
 ghost use Rattle.std.specs.Prelude.{◌≡◌, ◌<◌, ◌≤◌, ◌-◌, ◌^◌, ◌++◌, ◌∷◌, [], ◌&&◌};
-ghost use Rattle.std.specs.Prelude.{IfOk, IfSome, OnOk, Some, is_none, length, option_map, slice_get};
+ghost use Rattle.std.specs.Prelude.{IfOk, IfSome, OnErr, OnOk, Some, is_none, length, option_map, slice_get};
 ghost use Rattle.std.specs.List.{sum_by};
 ghost use Rattle.deny_base_disk.specs.Disk.{IsLater};
 ghost use Rattle.deny_base_disk.specs.Read.{GaveAtMost};
+ghost use Rattle.deny_base_lists.specs.Prefix.{Gains};
 ghost use Rattle.deny_krates.specs.Crates.{crate_view};
 ghost use Rattle.deny_spans_manifest.specs.Manifest.{deps_in, ignored_by};
+ghost use Rattle.deny_spans.specs.Begun.{AreOfFirst, own_manifest};
+ghost use Rattle.deny_spans.specs.private.Begun.{MayHave, MayHaveText};
 ghost use Rattle.deny_spans.specs.private.Gathered.{IsGathered, IsKept, IsScanned};
 ghost use Rattle.deny_spans.specs.private.Gathered.{IsManifestRead, IsReadLocally, broken_if};
 ghost use Rattle.deny_spans.specs.Wanted.{bytes_of};
@@ -46,6 +49,8 @@ pub fn gather<'k, D: PackageFiles>(
         AreCaused folder (D.seen disk.old) (D.seen disk.new) gathered.missed.unread) }
     ensures once { IfOk result (λ _. GaveAtMost (D.seen disk.old) (D.seen disk.new)
         (λ files. sum_by (bytes_of files) krates.entry.now.crates)) }
+    ensures begun { OnErr result (Gains (AreOfFirst (D.seen disk.old) (D.seen disk.new) krates.entry.now)
+        files.old files.new) }
     ensures few { OnOk result (length files.new < 2 ^ 32 - 1) }
     ensures later { IsLater (D.seen disk.old) (D.seen disk.new) }
 {
@@ -86,6 +91,8 @@ fn scan_manifest<'k, D: PackageFiles>(
         (added gathered.old.missed.unread gathered.new.missed.unread)) }
     ensures once { OnOk result (GaveAtMost (D.seen disk.old) (D.seen disk.new)
         (λ files. bytes_of files (crate_view place krate.entry.now))) }
+    ensures begun { OnErr result (MayHave (D.seen disk.old).files (own_manifest (crate_view place krate.entry.now))
+        files.old files.new) }
     ensures later { IsLater (D.seen disk.old) (D.seen disk.new) }
 {
     let read = read_local(alloc, krate, disk, &mut gathered.missed.unread)?;
@@ -140,7 +147,9 @@ fn keep_read<'k>(
     requires at_place { slice_get krates.now.crates place ≡ Some (crate_view place krate.now) }
     requires few { length files.old < 2 ^ 32 - 1 }
     requires short { IfSome read.now (λ bytes. length bytes.items < 2 ^ 28) }
-    ensures { IfOk result (IsKept krates.entry.now (crate_view place krate.entry.now)
+    ensures kept { IfOk result (IsKept krates.entry.now (crate_view place krate.entry.now)
+        (option_map (λ bytes. bytes.items) read.now) files.old files.new) }
+    ensures begun { OnErr result (MayHaveText krate.entry.now.manifest_path
         (option_map (λ bytes. bytes.items) read.now) files.old files.new) }
 {
     match read {
@@ -163,8 +172,9 @@ fn keep<'k>(
     requires at_place { slice_get krates.now.crates place ≡ Some (crate_view place krate.now) }
     requires few { length files.old < 2 ^ 32 - 1 }
     requires short { length bytes.now < 2 ^ 28 }
-    ensures { IfOk result (IsKept krates.entry.now (crate_view place krate.entry.now) (Some bytes.now)
+    ensures kept { IfOk result (IsKept krates.entry.now (crate_view place krate.entry.now) (Some bytes.now)
         files.old files.new) }
+    ensures begun { OnErr result (MayHaveText krate.entry.now.manifest_path (Some bytes.now) files.old files.new) }
 {
     match str::from_utf8(bytes) {
         Ok(text) => {

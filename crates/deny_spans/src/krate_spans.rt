@@ -1,14 +1,16 @@
 //! Where the crates of a graph stand in texts.
 ghost use Rattle.std.specs.Prelude.{◌≡◌, ◌++◌, ◌∷◌, [], ◌<◌, ◌≤◌, ◌^◌, IfNone, IfOk, IfSome, MatchOption};
-ghost use Rattle.std.specs.Prelude.{None, OnOk, Some, length, map, option_copied, option_map, slice_get};
+ghost use Rattle.std.specs.Prelude.{None, OnErr, OnOk, Some, length, map, option_copied, option_map, slice_get};
 ghost use Rattle.std.specs.List.{AllZip};
 ghost use Rattle.std.specs.Option.{option_and_then, option_flatten};
 ghost use Rattle.deny_base_disk.specs.Disk.{IsLater};
 ghost use Rattle.deny_base_disk.specs.Read.{GaveAtMost};
+ghost use Rattle.deny_base_lists.specs.Prefix.{Gains};
 ghost use Rattle.deny_krates.specs.Ids.{crate_of};
 ghost use Rattle.deny_krates_lock.specs.Text.{IsLineOf, lock_span_at, lock_text};
 ghost use Rattle.deny_spec.specs.Graph.{Graph};
 ghost use Rattle.deny_spec.specs.View.{manifest_of, shared_at};
+ghost use Rattle.deny_spans.specs.Begun.{AreBegun, AreOfFirst};
 ghost use Rattle.deny_spans.specs.Spans.{ViewLies};
 ghost use Rattle.deny_spans.specs.Seen.{IsSeen, lock_file};
 ghost use Rattle.deny_spans.specs.private.Found.{IsFound, IsPutTogether, OccursAt};
@@ -61,6 +63,9 @@ impl<'k> KrateSpans<'k> {
     ///
     /// A manifest that is not read has an entry with its crate, or with none, and one that has no tree has
     /// its path among the malformed.
+    ///
+    /// Where memory runs out, the files are unchanged, or have the lock text and then what was read of the
+    /// first of these manifests.
     pub fn synthesize<D: PackageFiles>(
         alloc: Global,
         krates: &'k Krates,
@@ -83,6 +88,8 @@ impl<'k> KrateSpans<'k> {
         ensures wanted { IfOk result (λ s. AreWanted krates.entry.now s.unread) }
         ensures once { IfOk result (λ _. GaveAtMost (D.seen disk.old) (D.seen disk.new)
             (λ files. bytes_wanted files krates.entry.now)) }
+        ensures begun { OnErr result (AreBegun (D.seen disk.old) (D.seen disk.new) krates.entry.now lock_name.now
+            files.old files.new) }
         ensures later { IsLater (D.seen disk.old) (D.seen disk.new) }
     {
         let _krates = krates.krates();
@@ -178,6 +185,7 @@ fn add_lock(
     ensures spans { IfOk result (λ lock. lock.spans ≡ map (lock_span_at krates.now.crates) krates.now.crates) }
     ensures lines { IfOk result (λ lock. AllZip (IsLineOf (lock_text krates.now.crates)) krates.now.crates lock.spans) }
     ensures files { OnOk result (files.new ≡ files.old ++ lock_file lock_name.now krates.now ∷ []) }
+    ensures err { OnErr result (files.new ≡ files.old) }
 {
     let lock = lock_text(alloc, krates)?;
     let path = lock_path(alloc, lock_name)?;
@@ -209,6 +217,8 @@ fn find_manifests<'k, D: PackageFiles>(
         AreCaused folder (D.seen disk.old) (D.seen disk.new) found.missed.unread) }
     ensures once { IfOk result (λ _. GaveAtMost (D.seen disk.old) (D.seen disk.new)
         (λ files. bytes_wanted files krates.entry.now)) }
+    ensures begun { OnErr result (Gains (AreOfFirst (D.seen disk.old) (D.seen disk.new) krates.entry.now)
+        files.old files.new) }
     ensures later { IsLater (D.seen disk.old) (D.seen disk.new) }
 {
     let GatheredManifests {

@@ -1,15 +1,19 @@
 //! The manifest of the workspace.
-ghost use Rattle.std.specs.Prelude.{◌≡◌, ◌<◌, ◌-◌, ◌^◌, ◌++◌, [], List, Option, IfOk};
-ghost use Rattle.std.specs.Prelude.{IfSome, is_none, length, option_map, position};
+ghost use Rattle.std.specs.Prelude.{◌≡◌, ◌<◌, ◌-◌, ◌^◌, ◌++◌, ◌∷◌, [], List, None, Option, IfOk, OnErr};
+ghost use Rattle.std.specs.Prelude.{IfSome, Some, is_none, length, option_map, position};
 ghost use Rattle.deny_base_disk.specs.Disk.{IsLater};
 ghost use Rattle.deny_base_disk.specs.Read.{GaveAtMost, GaveOnce};
 ghost use Rattle.deny_spans.specs.ManifestScan.{home_in};
 ghost use Rattle.deny_spans.specs.Paths.{workspace_path};
+ghost use Rattle.deny_spans.specs.Begun.{lone_manifest};
+ghost use Rattle.deny_spans.specs.private.Begun.{MayHave, MayHaveText};
 ghost use Rattle.deny_spans.specs.private.Gathered.{broken_if};
 ghost use Rattle.deny_spans.specs.private.Workspace.{AreShared, AreSharedIf, AreSharedIn, AreSharedOf, IsKeptAlone};
 ghost use Rattle.deny_spans.specs.private.Workspace.{IsReadAlone, IsShortAt, IsWorkspaceIn, is_home, text_at};
 ghost use Rattle.deny_spans.specs.Wanted.{bytes_alone};
 ghost use Rattle.deny_toml.specs.value.Value.{Value};
+ghost use Rattle.deny_base.specs.Unread.{asked};
+ghost use Rattle.deny_base.specs.declared.purpose.Purpose.TheVariants as purpose;
 ghost use Rattle.deny_base_unread.specs.Added.{added};
 ghost use Rattle.deny_base_unread.specs.Bound.{Folders};
 ghost use Rattle.deny_base_unread.specs.Causes.{AreCaused};
@@ -56,6 +60,8 @@ pub fn workspace_of<'k, D: PackageFiles>(
         (added missed.old.unread missed.new.unread)) }
     ensures once { IfOk result (λ _. GaveAtMost (D.seen disk.old) (D.seen disk.new)
         (λ files. bytes_alone files krates.entry.now)) }
+    ensures begun { OnErr result (MayHave (D.seen disk.old).files (lone_manifest krates.entry.now)
+        files.old files.new) }
     ensures later { IsLater (D.seen disk.old) (D.seen disk.new) }
 {
     let path = workspace_path(alloc, krates.workspace_root())?;
@@ -146,6 +152,8 @@ fn alone<'k, D: PackageFiles>(
     ensures caused { IfOk result (λ _. (folder : Folders) → AreCaused folder (D.seen disk.old) (D.seen disk.new)
         (added missed.old.unread missed.new.unread)) }
     ensures once { GaveOnce (D.seen disk.old) (D.seen disk.new) (workspace_path krates.entry.now.root) }
+    ensures begun { OnErr result (MayHave (D.seen disk.old).files
+        (asked None purpose.Manifest (workspace_path krates.entry.now.root) ∷ []) files.old files.new) }
     ensures later { IsLater (D.seen disk.old) (D.seen disk.new) }
 {
     match read_manifest(alloc, disk, None, path.as_str(), &mut missed.unread)? {
@@ -179,6 +187,7 @@ fn of_bytes<'k>(
     requires short { length bytes.now < 2 ^ 28 }
     ensures kept { IfOk result (IsKeptAlone krates.entry.now registries.now path bytes.now files.old files.new) }
     ensures malformed { IfOk result (λ w. malformed.new ≡ malformed.old ++ broken_if path (is_none w.deps)) }
+    ensures begun { OnErr result (MayHaveText path (Some bytes.now) files.old files.new) }
 {
     let workspace = keep_alone(alloc, krates, registries, path.as_str(), bytes, files)?;
     if workspace.deps.is_none() {
@@ -197,7 +206,8 @@ fn keep_alone<'k>(
 ) -> Result<Workspace<'k>, NoMemory>
     requires few { length files.old < 2 ^ 32 - 1 }
     requires short { length bytes.now < 2 ^ 28 }
-    ensures { IfOk result (IsKeptAlone krates.entry.now registries.now path.now bytes.now files.old files.new) }
+    ensures kept { IfOk result (IsKeptAlone krates.entry.now registries.now path.now bytes.now files.old files.new) }
+    ensures begun { OnErr result (MayHaveText path.now (Some bytes.now) files.old files.new) }
 {
     match str::from_utf8(bytes) {
         Ok(text) => {

@@ -1,6 +1,8 @@
 use Rattle.std.proofs.Common.{ap, arith, length, length-append, refl}
 use Rattle.deny_krates.specs.Crates.{crate_view}
 use Rattle.deny_krates.proofs.PlaceLemmas.{krate_at}
+use Rattle.deny_base_lists.proofs.Results.{on_err_always}
+use Rattle.deny_spans.proofs.BegunLemmas.{begun_at}
 use Rattle.deny_spans.proofs.CountLemmas.{caused_more}
 use Rattle.deny_spans.proofs.GatherLemmas.{gathered_all, gathered_next, kept_few}
 use Rattle.deny_spans.proofs.OnceLemmas.{given_all, given_next}
@@ -55,3 +57,16 @@ returns-clause-once g c =
     let seen = g.D.PackageFiles.seen in
     given_all c.args.krates.now c.loop-place.place c.krates-krate-items.result.now (seen c.args.disk.now)
     (seen c.loop-place.disk) c.krates-krate-items.ensures.crates c.loop-place-test.false c.loop-place.invariant.once
+
+pub returns-in_err-scan_manifest-clause-begun : goal.returns-in_err-scan_manifest-clause-begun
+returns-in_err-scan_manifest-clause-begun g c =
+    let seen = g.D.PackageFiles.seen in
+    let before = c.loop-place.invariant in
+    let place = c.loop-place.place in
+    let at = krate_at c.args.krates.now c.krates-krate-items.result.now place c.krate-item.result
+    c.krates-krate-items.ensures.crates c.loop-place-test.true c.krate-item.is in
+    on_err_always c.from_residual.result
+    (begun_at (seen c.args.disk.now) (seen c.loop-place.disk) (seen c.scan_manifest.new.disk) c.args.krates.now
+    before.later c.scan_manifest.ensures.later c.args.files.now c.loop-place.files c.scan_manifest.new.files
+    c.loop-place.gathered before.caused place (crate_view place c.krate-item.result) at before.gathered
+    c.in_err-scan_manifest.ensures.begun)

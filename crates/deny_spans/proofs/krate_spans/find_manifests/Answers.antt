@@ -1,5 +1,7 @@
 use Rattle.std.proofs.Common.{List, Option, subst, sym, ℕ}
 use Rattle.deny_base_disk.proofs.PieceLemmas.{gave_then}
+use Rattle.deny_base_lists.proofs.Results.{on_err_always}
+use Rattle.deny_spans.proofs.BegunLemmas.{begun_last}
 use Rattle.deny_spans.proofs.CountLemmas.{caused_more}
 use Rattle.deny_spans.proofs.FoundLemmas.{found_by, home_short, unread_behind}
 use Rattle.deny_spans.proofs.krate_spans.find_manifests.Goals as goal
@@ -33,3 +35,12 @@ returns-clause-once g c =
     let seen = g.D.PackageFiles.seen in
     gave_then (seen c.args.disk.now) (seen c.gather.new.disk) (seen c.workspace_of.new.disk) _ _
     c.gather.ensures.later.files c.in_ok-manifests.ensures.once c.in_ok-workspace.ensures.once
+
+pub returns-in_err-workspace-clause-begun : goal.returns-in_err-workspace-clause-begun
+returns-in_err-workspace-clause-begun g c =
+    let seen = g.D.PackageFiles.seen in
+    on_err_always c.from_residual-in_err-workspace.result
+    (begun_last (seen c.args.disk.now) (seen c.gather.new.disk) (seen c.workspace_of.new.disk) c.args.krates.now
+    c.gather.ensures.later c.workspace_of.ensures.later c.args.files.now c.gather.new.files c.workspace_of.new.files
+    c.in_ok-manifests.field-0 c.in_ok-manifests.ensures.caused c.in_ok-manifests.ensures.gathered
+    c.in_err-workspace.ensures.begun)

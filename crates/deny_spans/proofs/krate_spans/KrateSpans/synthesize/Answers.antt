@@ -1,10 +1,12 @@
-use Rattle.std.proofs.Common.{◌∙◌, List, subst}
+use Rattle.std.proofs.Common.{◌∙◌, ◌++◌, ◌∷◌, [], List, inr, subst}
 use Rattle.deny_base.specs.declared.files.File.{File}
+use Rattle.deny_base_lists.proofs.Results.{on_err_always}
+use Rattle.deny_spans.proofs.BegunLemmas.{begun_whole}
 use Rattle.deny_spans.proofs.CountLemmas.{caused_listed}
 use Rattle.deny_spans.proofs.SpanLemmas.{view_lies}
 use Rattle.deny_spans.proofs.SeenLemmas.{lock_at, seen_is, spans_are, wanted_are}
 use Rattle.deny_spans.proofs.krate_spans.KrateSpans.synthesize.Goals as goal
-use Rattle.deny_spans.specs.Seen.{IsSeen}
+use Rattle.deny_spans.specs.Seen.{IsSeen, lock_file}
 use Rattle.deny_spans.specs.SpansView.{spans_view}
 
 pub returns-clause-seen : goal.returns-clause-seen
@@ -56,3 +58,12 @@ returns-clause-wanted g c =
     (seen_is told c.args.krates.now c.args.registries.now c.krates-krates.result.now c.add_lock.new.files
     c.find_manifests.new.files c.in_ok-lock.lock c.in_ok-found.found s c.krates-krates.ensures.crates
     c.in_ok-found.ensures.found c.in_ok-spans.ensures)
+
+pub returns-in_err-spans-clause-begun : goal.returns-in_err-spans-clause-begun
+returns-in_err-spans-clause-begun g c =
+    let seen = g.D.PackageFiles.seen in
+    on_err_always c.from_residual-in_err-spans.result
+    (inr (begun_whole (seen c.args.disk.now) (seen c.find_manifests.new.disk) c.args.krates.now c.args.registries.now
+    (c.args.files.now ++ lock_file c.args.lock_name.now c.args.krates.now ∷ []) c.add_lock.new.files
+    c.find_manifests.new.files c.in_ok-found.found c.in_ok-lock.ensures.files c.in_ok-found.ensures.found
+    c.in_ok-found.ensures.caused))
