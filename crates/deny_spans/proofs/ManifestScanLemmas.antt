@@ -1,5 +1,5 @@
 -- The trees of texts, and where the files of manifests are.
-use Rattle.std.proofs.Common.{◌≡◌, ◌∙◌, ◌+◌, ◌++◌, ◌∷◌, [], ℕ, Bool, true, List, Option, None, Some, ap, append_assoc}
+use Rattle.std.proofs.Common.{◌≡◌, ◌∙◌, ◌+◌, ◌≤◌, ◌++◌, ◌∷◌, [], ℕ, Bool, true, List, Option, None, Some, ap, append_assoc}
 use Rattle.std.proofs.Common.{arith, cond, length, length-append, refl, subst, sym}
 use Rattle.std.specs.Prelude.{Contains, IfSome, slice_get}
 use Rattle.std.specs.List.{flat_map}
@@ -35,6 +35,19 @@ numbered_more n (x ∷ ls) l are is =
       numbered_more (n + length (kept_of x)) ls l are.1
           (subst (λ (m : ℕ). IfSome l.read (λ r. r.number ≡ m)) moved is),
     )
+
+-- the files of manifests come behind the first number
+pub numbered_behind : (n : ℕ) (ls : List ManifestScan) (l : ManifestScan) (r : Reading) → AreNumbered n ls
+    → Contains ls l → l.read ≡ Some r → n ≤ r.number
+numbered_behind n [] l r are member read = absurd (no_member l member)
+numbered_behind n (x ∷ ls) l r are member read =
+    Contains-by_cases x ls l member
+    (λ same.
+    let number : r.number ≡ n =
+    subst (λ (o : Option Reading). IfSome o (λ q. q.number ≡ n)) (ap (λ (k : ManifestScan). k.read) same ∙ read)
+    are.0 in
+    omega (arith, number))
+    (λ later. omega (arith, numbered_behind (n + length (kept_of x)) ls l r are.1 later read))
 
 abbrev pub file_of : List ℕ → List ℕ → File
 file_of path text = record { path = path; source = text }

@@ -1,5 +1,5 @@
 -- The spans of what was seen lie in the files that they point into.
-use Rattle.std.proofs.Common.{◌≡◌, ◌∙◌, ◌+◌, ◌-◌, ◌<◌, ◌++◌, ℕ, Bool, List, Option, None, Some, IsUtf8, ap}
+use Rattle.std.proofs.Common.{◌≡◌, ◌∙◌, ◌+◌, ◌-◌, ◌<◌, ◌≤◌, ◌++◌, ℕ, Bool, List, Option, None, Some, IsUtf8, ap}
 use Rattle.std.proofs.Common.{append_assoc, arith, cond, length, length-append, refl, reverse, subst, sym}
 use Rattle.std.specs.Prelude.{Contains, IfSome, is_none, option_map, slice_get}
 use Rattle.std.specs.List.{flat_map}
@@ -16,7 +16,7 @@ use Rattle.deny_spans_manifest.specs.Declarations.{declared_in}
 use Rattle.deny_spec.specs.Graph.{Crate, Graph}
 use Rattle.deny_spec.specs.View.{Manifest, View, WorkspaceEntry}
 use Rattle.deny_base_disk.specs.Disk.{Files}
-use Rattle.deny_spans.proofs.ManifestScanLemmas.{file_of, kept_at, kept_text}
+use Rattle.deny_spans.proofs.ManifestScanLemmas.{file_of, kept_at, kept_text, numbered_behind}
 use Rattle.deny_spans.proofs.TreeLies.{declarations_lie, shared_lie}
 use Rattle.deny_spans.specs.ManifestScan.{IsReadAt, ManifestScan, ReadsAs, Reading, is_workspaces, kept_as, kept_of}
 use Rattle.deny_spans.specs.ManifestScan.{number_of, tree_of}
@@ -71,6 +71,13 @@ module _ (told : Option Files) (g : Graph) (registries : List Registry) (old new
       l r refl seen.are.numbers member
       read (is_utf8-from_IsUtf8 r.text utf8)
 
+  number_alone : (r : Reading) → seen.alone ≡ Some r → length old ≤ r.number
+  number_alone r read =
+      let number : r.number ≡ length old + length (flat_map kept_of seen.scans) =
+      subst (λ (o : Option Reading). IfSome o (λ q. q.number ≡ length old + length (flat_map kept_of seen.scans))) read
+      seen.are.number in
+      omega (arith, number)
+
   file_alone : (r : Reading) → seen.alone ≡ Some r → IsUtf8 r.text
       → slice_get new r.number ≡ Some (file_of (workspace_path g.root) r.text)
   file_alone r read utf8 =
@@ -89,30 +96,31 @@ module _ (told : Option Files) (g : Graph) (registries : List Registry) (old new
   -- ---- manifests
 
   manifest_of_scan : (l : ManifestScan) (m : Manifest) → Contains seen.scans l → manifest_in agree_so g l ≡ Some m
-      → ManifestLies new m
+      → ManifestLies (length old) new m
   unfolding manifest_in
   manifest_of_scan l m member is = by_read l.read refl is
     where
       by_tree : (r : Reading) → l.read ≡ Some r → (o : Option Value) → r.tree ≡ o
-          → option_map (manifest_by agree_so g l.crate r.number) o ≡ Some m → ManifestLies new m
+          → option_map (manifest_by agree_so g l.crate r.number) o ≡ Some m → ManifestLies (length old) new m
       by_tree r read None has e = absurd (cc e)
       by_tree r read (Some tree) has e =
           let at = read_at l.crate.manifest_path l.read r (seen.are.each l member).read read in
           let candidates = holds_read l.crate.manifest_path r tree at has in
-          subst (λ (n : Manifest). ManifestLies new n) (same_Some (manifest_by agree_so g l.crate r.number tree) m e)
+          subst (λ (n : Manifest). ManifestLies (length old) new n) (same_Some (manifest_by agree_so g l.crate r.number tree) m e)
           (record {
             file = file_of l.crate.manifest_path r.text;
+            behind = numbered_behind (length old) seen.scans l r seen.are.numbers member read;
             is = file_at l r member read candidates.0;
             deps = λ d there_is. at_member (DeclaredLies r.text) (declared_in agree_so g l.crate tree) d
                 (declarations_lie r.text agree_so g l.crate tree candidates.1) there_is;
           })
 
       by_read : (o : Option Reading) → l.read ≡ o → option_map_or (manifest_read agree_so g l.crate) o None ≡ Some m
-          → ManifestLies new m
+          → ManifestLies (length old) new m
       by_read None read e = absurd (cc e)
       by_read (Some r) read e = by_tree r read r.tree refl e
 
-  manifest_lies : (m : Manifest) → Contains view.manifests (Some m) → ManifestLies new m
+  manifest_lies : (m : Manifest) → Contains view.manifests (Some m) → ManifestLies (length old) new m
   manifest_lies m is =
       let of = from_contains_map (manifest_in agree_so g) seen.scans (Some m)
       (subst (λ (ms : List (Option Manifest)). Contains ms (Some m))
@@ -125,6 +133,7 @@ module _ (told : Option Files) (g : Graph) (registries : List Registry) (old new
   record IsShared (r : Reading) (tree : Value) : Type 0 where
     utf8 : IsUtf8 r.text
     holds : OccursIn r.text tree
+    behind : length old ≤ r.number
     file : File
     is : slice_get new r.number ≡ Some file
     source : file.source ≡ r.text
@@ -143,6 +152,7 @@ module _ (told : Option Files) (g : Graph) (registries : List Registry) (old new
           record {
             utf8 = candidates.0;
             holds = candidates.1;
+            behind = number_alone r e;
             file = file_of (workspace_path g.root) r.text;
             is = file_alone r e candidates.0;
             source = refl;
@@ -154,13 +164,14 @@ module _ (told : Option Files) (g : Graph) (registries : List Registry) (old new
           record {
             utf8 = candidates.0;
             holds = candidates.1;
+            behind = numbered_behind (length old) seen.scans l r seen.are.numbers member e;
             file = file_of l.crate.manifest_path r.text;
             is = file_at l r member e candidates.0;
             source = refl;
           }
 
   entry_lies : (e : WorkspaceEntry) (o : Option Value) → tree_of (workspace_reading g seen.scans seen.alone) ≡ o
-      → Contains (entries_by g registries o) e → SharedLies new view.workspace e
+      → Contains (entries_by g registries o) e → SharedLies (length old) new view.workspace e
   entry_lies e None has is = absurd (no_member e is)
   entry_lies e (Some tree) has is =
       let of = tree_read (workspace_reading g seen.scans seen.alone) tree has in
@@ -170,6 +181,7 @@ module _ (told : Option Files) (g : Graph) (registries : List Registry) (old new
       record {
         number = of.reading.number;
         file = shared.file;
+        behind = shared.behind;
         in_file = seen.seen.number ∙ ap (λ (o : Option Reading). number_of o) of.is
             ∙ ap (λ (b : Bool). cond b (Some of.reading.number) None) (is_utf8-from_IsUtf8 of.reading.text shared.utf8);
         is = shared.is;
@@ -180,21 +192,21 @@ module _ (told : Option Files) (g : Graph) (registries : List Registry) (old new
   entries : List WorkspaceEntry
   entries = entries_by g registries (tree_of (workspace_reading g seen.scans seen.alone))
 
-  one_lies : (e : WorkspaceEntry) → Contains entries e → SharedLies new view.workspace e
+  one_lies : (e : WorkspaceEntry) → Contains entries e → SharedLies (length old) new view.workspace e
   unfolding entries
   one_lies e is = entry_lies e (tree_of (workspace_reading g seen.scans seen.alone)) refl is
 
-  span_lies : (e : WorkspaceEntry) → Contains view.shared (Some e) → SharedLies new view.workspace e
+  span_lies : (e : WorkspaceEntry) → Contains view.shared (Some e) → SharedLies (length old) new view.workspace e
   unfolding entries span_of
   span_lies e is =
       let of = from_contains_map (λ (c : Crate). span_of entries c.place) g.crates (Some e)
       (subst (λ (es : List (Option WorkspaceEntry)). Contains es (Some e)) seen.seen.shared is) in
       one_lies e (of_reverse entries e (found_member (resolves_to of.0.place) (reverse entries) e of.2))
 
-  unused_lies : (e : WorkspaceEntry) → Contains view.unused e → SharedLies new view.workspace e
+  unused_lies : (e : WorkspaceEntry) → Contains view.unused e → SharedLies (length old) new view.workspace e
   unfolding entries
   unused_lies e is = one_lies e (Contains-from_filter (λ (u : WorkspaceEntry). is_none u.place) entries e
       (subst (λ (es : List WorkspaceEntry). Contains es e) seen.seen.unused is)).0
 
-  pub view_lies : ViewLies new view
+  pub view_lies : ViewLies (length old) new view
   view_lies = record { manifests = manifest_lies; shared = span_lies; unused = unused_lies }

@@ -1,5 +1,5 @@
--- The spans of a view lie in the files that they point into, on character boundaries.
-use Rattle.std.specs.Prelude.{◌≡◌, ℕ, Contains, IfSome, List, Option, Some, slice_get}
+-- The spans of a view lie in the files that they point into, on character boundaries; these files come behind others.
+use Rattle.std.specs.Prelude.{◌≡◌, ◌≤◌, ℕ, Contains, IfSome, List, Option, Some, slice_get}
 use Rattle.deny_base.specs.declared.files.File.{File}
 use Rattle.deny_base.specs.declared.span.Spanned.{Spanned}
 use Rattle.deny_spec.specs.View.{Declared, Manifest, View, WorkspaceEntry}
@@ -23,21 +23,23 @@ pub record EntryLies (text : List ℕ) (e : WorkspaceEntry) : Type 0 where
   pub rename : IsPlaced text e.rename
   pub patched : IfSome e.patched (IsSpan text)
 
--- the spans of a manifest's declarations lie in its file
-pub record ManifestLies (files : List File) (m : Manifest) : Type 0 where
+-- the spans of a manifest's declarations lie in its file, which comes behind the first files
+pub record ManifestLies (first : ℕ) (files : List File) (m : Manifest) : Type 0 where
   pub file : File
+  pub behind : first ≤ m.file
   pub is : slice_get files m.file ≡ Some file
   pub deps : (d : Declared) → Contains m.deps d → DeclaredLies file.source d
 
--- the spans of a shared entry lie in the workspace's file, which has this number
-pub record SharedLies (files : List File) (workspace : Option ℕ) (e : WorkspaceEntry) : Type 0 where
+-- the spans of a shared entry lie in the workspace's file, which has this number and comes behind the first files
+pub record SharedLies (first : ℕ) (files : List File) (workspace : Option ℕ) (e : WorkspaceEntry) : Type 0 where
   pub number : ℕ
   pub file : File
   pub in_file : workspace ≡ Some number
+  pub behind : first ≤ number
   pub is : slice_get files number ≡ Some file
   pub entry : EntryLies file.source e
 
-pub record ViewLies (files : List File) (view : View) : Type 0 where
-  pub manifests : (m : Manifest) → Contains view.manifests (Some m) → ManifestLies files m
-  pub shared : (e : WorkspaceEntry) → Contains view.shared (Some e) → SharedLies files view.workspace e
-  pub unused : (e : WorkspaceEntry) → Contains view.unused e → SharedLies files view.workspace e
+pub record ViewLies (first : ℕ) (files : List File) (view : View) : Type 0 where
+  pub manifests : (m : Manifest) → Contains view.manifests (Some m) → ManifestLies first files m
+  pub shared : (e : WorkspaceEntry) → Contains view.shared (Some e) → SharedLies first files view.workspace e
+  pub unused : (e : WorkspaceEntry) → Contains view.unused e → SharedLies first files view.workspace e

@@ -1,5 +1,5 @@
 //! Where the crates of a graph stand in texts.
-ghost use Rattle.std.specs.Prelude.{◌≡◌, ◌++◌, ◌∷◌, [], ◌<◌, ◌≤◌, ◌^◌, IfNone, IfOk, IfSome, MatchOption};
+ghost use Rattle.std.specs.Prelude.{◌≡◌, ◌+◌, ◌++◌, ◌∷◌, [], ◌<◌, ◌≤◌, ◌^◌, IfNone, IfOk, IfSome, MatchOption};
 ghost use Rattle.std.specs.Prelude.{None, OnErr, OnOk, Some, length, map, option_copied, option_map, slice_get};
 ghost use Rattle.std.specs.List.{AllZip};
 ghost use Rattle.std.specs.Option.{option_and_then, option_flatten};
@@ -82,7 +82,7 @@ impl<'k> KrateSpans<'k> {
         ensures lock { IfOk result (λ s. s.lock_id ≡ length files.old) }
         ensures locked { IfOk result (λ s. slice_get files.new s.lock_id
             ≡ Some (lock_file lock_name.now krates.entry.now)) }
-        ensures lies { IfOk result (λ s. ViewLies files.new (spans_view s)) }
+        ensures lies { IfOk result (λ s. ViewLies (length files.old + 1) files.new (spans_view s)) }
         ensures caused { IfOk result (λ s. (folder : Folders) →
             AreCaused folder (D.seen disk.old) (D.seen disk.new) s.unread) }
         ensures wanted { IfOk result (λ s. AreWanted krates.entry.now s.unread) }

@@ -1,4 +1,4 @@
-use Rattle.std.proofs.Common.{◌∙◌, ◌++◌, ◌∷◌, [], List, inr, subst}
+use Rattle.std.proofs.Common.{◌≡◌, ◌∙◌, ◌+◌, ◌++◌, ◌∷◌, [], ℕ, List, ap, inr, length, length-append, subst}
 use Rattle.deny_base.specs.declared.files.File.{File}
 use Rattle.deny_base_lists.proofs.Results.{on_err_always}
 use Rattle.deny_spans.proofs.BegunLemmas.{begun_whole}
@@ -7,6 +7,7 @@ use Rattle.deny_spans.proofs.SpanLemmas.{view_lies}
 use Rattle.deny_spans.proofs.SeenLemmas.{lock_at, seen_is, spans_are, wanted_are}
 use Rattle.deny_spans.proofs.krate_spans.KrateSpans.synthesize.Goals as goal
 use Rattle.deny_spans.specs.Seen.{IsSeen, lock_file}
+use Rattle.deny_spans.specs.Spans.{ViewLies}
 use Rattle.deny_spans.specs.SpansView.{spans_view}
 
 pub returns-clause-seen : goal.returns-clause-seen
@@ -37,11 +38,14 @@ pub returns-clause-lies : goal.returns-clause-lies
 returns-clause-lies g c =
     let told = (g.D.PackageFiles.seen c.args.disk.now).files in
     let s = c.in_ok-spans.spans in
-    view_lies told c.args.krates.now c.args.registries.now c.add_lock.new.files c.find_manifests.new.files s.unread
+    let first : length c.add_lock.new.files ≡ length c.args.files.now + 1 =
+    ap length c.in_ok-lock.ensures.files ∙ length-append c.args.files.now _ in
+    subst (λ (n : ℕ). ViewLies n c.find_manifests.new.files (spans_view s)) first
+    (view_lies told c.args.krates.now c.args.registries.now c.add_lock.new.files c.find_manifests.new.files s.unread
     s.malformed (spans_view s)
     (seen_is told c.args.krates.now c.args.registries.now c.krates-krates.result.now c.add_lock.new.files
     c.find_manifests.new.files c.in_ok-lock.lock c.in_ok-found.found s c.krates-krates.ensures.crates
-    c.in_ok-found.ensures.found c.in_ok-spans.ensures)
+    c.in_ok-found.ensures.found c.in_ok-spans.ensures))
 
 pub returns-clause-caused : goal.returns-clause-caused
 returns-clause-caused g c = λ folder.
