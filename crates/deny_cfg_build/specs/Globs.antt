@@ -1,5 +1,6 @@
 -- The globs of patterns, and the patterns whose globs match a path.
-use Rattle.std.specs.Prelude.{◌≡◌, ◌++◌, ℕ, List, [], ◌∷◌, Option, None, Some, codes, filter_map, slice_get}
+use Rattle.std.specs.Prelude.{◌≡◌, ◌++◌, ℕ, List, [], ◌∷◌, Option, None, Some, codes, filter_map, map, slice_get}
+use Rattle.std.specs.Coded.{Coded-set, coded_list, coded_ℕ}
 use Rattle.std.specs.Str.{chars}
 use Rattle.deny_globs.specs.Faults.{IsBadAt}
 use Rattle.deny_globs.specs.Patterns.{Pattern, characters_of, tokens_of}
@@ -39,6 +40,14 @@ pub data AreGlobsOf (text_of : GlobPattern → List ℕ) : List GlobPattern → 
 -- a glob set is read from these patterns
 abbrev pub IsSetOf : (GlobPattern → List ℕ) → List GlobPattern → ValidGlobSet → Type 0
 IsSetOf text_of wanted valid = AreGlobsOf text_of wanted valid.patterns valid.set
+
+-- the characters of the globs of a set are those of the texts of its patterns
+abbrev pub AreWritten : (GlobPattern → List ℕ) → ValidGlobSet → Type 0
+AreWritten text_of valid = map characters_of valid.set ≡ map (λ pattern. chars (text_of pattern)) valid.patterns
+
+pub AreWritten-prop : (text_of : GlobPattern → List ℕ) (valid : ValidGlobSet) → IsProp (AreWritten text_of valid)
+AreWritten-prop text_of valid = Coded-set (coded_list (coded_list coded_ℕ)) (map characters_of valid.set)
+    (map (λ pattern. chars (text_of pattern)) valid.patterns)
 
 -- both are left out, or both are there and related
 abbrev pub OfBoth : {A B : Type 0} → (A → B → Type 0) → Option A → Option B → Type 0

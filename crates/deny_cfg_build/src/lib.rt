@@ -10,6 +10,7 @@
 //! it is wrong.
 #![tactic(auto)]
 
+mod build;
 mod builtin;
 mod fitting;
 mod gathered;
@@ -19,8 +20,9 @@ mod valid;
 mod view;
 mod wrong;
 
+pub use build::{build_by, older_key_by, valid_build};
 pub use glob_set::ValidGlobSet;
 pub use pattern::GlobPattern;
-pub use valid::{ValidBuildConfig, ValidBypass, build_by, older_key_by, valid_build};
+pub use valid::{ValidBuildConfig, ValidBypass};
 pub use view::globs_file;
 pub use wrong::{BuildFault, wrong_in};

@@ -2,7 +2,7 @@ use Rattle.std.proofs.Common.{map}
 use Rattle.deny_cfg_build.specs.Globs.{own_text}
 use Rattle.deny_cfg_build.specs.declared.pattern.GlobPattern.TheVariants.{User}
 use Rattle.deny_cfg_build.proofs.BuildLaws.{as_many}
-use Rattle.deny_cfg_build.proofs.valid.own_set.Goals as goal
+use Rattle.deny_cfg_build.proofs.build.own_set.Goals as goal
 
 pub set_of-requires : goal.set_of-requires
 set_of-requires c =

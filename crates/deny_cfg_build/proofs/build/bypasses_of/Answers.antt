@@ -1,6 +1,6 @@
 use Rattle.deny_cfg_build.specs.Build.{IsBypassOf}
 use Rattle.deny_cfg_build.proofs.BuildLaws.{zip_next}
-use Rattle.deny_cfg_build.proofs.valid.bypasses_of.Goals as goal
+use Rattle.deny_cfg_build.proofs.build.bypasses_of.Goals as goal
 
 pub entries-preserved : goal.entries-preserved
 entries-preserved c =

@@ -3,7 +3,7 @@ use Rattle.deny_cfg_build.specs.Build.{builtin_if}
 use Rattle.deny_cfg_build.specs.Globs.{extension_text}
 use Rattle.deny_cfg_build.specs.declared.pattern.GlobPattern.TheVariants.{User}
 use Rattle.deny_cfg_build.proofs.BuildLaws.{as_many}
-use Rattle.deny_cfg_build.proofs.valid.extension_set.Goals as goal
+use Rattle.deny_cfg_build.proofs.build.extension_set.Goals as goal
 
 pub set_of-requires : goal.set_of-requires
 set_of-requires c =
