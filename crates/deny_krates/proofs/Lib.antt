@@ -6,7 +6,9 @@ pub use Rattle.deny_krates_graph.proofs.OrderlyLemmas
 pub use Rattle.deny_krates_graph.proofs.ResolvedLemmas
 pub use Rattle.deny_krates_graph.proofs.SearchLemmas
 pub mod BeforeLemmas
+pub mod ChainLemmas
 pub mod DeclaredLemmas
+pub mod DistanceLemmas
 pub mod GetLemmas
 pub mod InOrderLemmas
 pub mod LeadLemmas

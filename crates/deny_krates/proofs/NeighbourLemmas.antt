@@ -1,4 +1,5 @@
--- The direct dependencies of a crate are the crates that its edges lead to.
+-- The direct dependencies of a crate are the crates that its edges lead to, and its direct dependents those that edges
+-- to it come from.
 use Rattle.std.proofs.Common.{◌≡◌, ◌<◌, ◌≤◌, ℕ, List, [], Option, true, length, map, refl, sym, ap, ◌∙◌, subst, arith}
 use Rattle.std.specs.Prelude.{◌↔◌, All, Contains}
 use Rattle.std.specs.Cmp.Lexicographic.{nat_list_cmp_total, slice_cmp}
@@ -10,7 +11,7 @@ use Rattle.std.proofs.lemmas.Bool.{and_parts, eq-eqb, eqb-true}
 use Rattle.std.proofs.lemmas.List.{length-map}
 use Rattle.std.proofs.lemmas.List.Elements.{All-contains}
 use Rattle.deny_base.specs.declared.edge.Edge.{Edge}
-use Rattle.deny_krates_graph.specs.Dependents.{AreDirectDependencies, by_id, id_at}
+use Rattle.deny_krates_graph.specs.Dependents.{AreDirectDependencies, AreDirectDependents, by_id, id_at}
 use Rattle.deny_krates_graph.specs.Orderly.{IsOrderly}
 use Rattle.deny_krates_graph.specs.declared.krate.DirectDependent.{DirectDependent}
 use Rattle.deny_base_lists.proofs.Members.{Contains-filter, Contains-from_filter, Contains-from_map, any_from}
@@ -19,12 +20,12 @@ use Rattle.deny_base_lists.proofs.Members.{contains_map, from_there}
 use Rattle.deny_base_lists.proofs.Sorted.{ascends_map, length-ascending}
 use Rattle.deny_base_lists.specs.Walk as walk
 use Rattle.deny_spec.specs.Graph.{Crate, Graph, dependencies, leads, dependents}
-use Rattle.deny_krates.specs.Steps.{HasEdge}
+use Rattle.deny_krates.specs.Steps.{HasEdge, HasEdgeFrom}
 use Rattle.deny_krates.specs.Placed.{ArePlaced}
 use Rattle.deny_krates.proofs.PlaceLemmas.{place_of, holds_at}
 
 -- an edge joins crates of the graph
-pub parent_holds : (g : Graph) → IsOrderly g → (e : Edge) → Contains g.edges e → e.parent < length g.crates
+parent_holds : (g : Graph) → IsOrderly g → (e : Edge) → Contains g.edges e → e.parent < length g.crates
 parent_holds g orderly e holds = All-contains (λ d. d.parent < length g.crates) g.edges e orderly.parents holds
 
 pub child_holds : (g : Graph) → IsOrderly g → (e : Edge) → Contains g.edges e → e.child < length g.crates
@@ -33,6 +34,10 @@ child_holds g orderly e holds = All-contains (λ d. d.child < length g.crates) g
 pub edges_stay : (g : Graph) → IsOrderly g → walk.StaysBelow (HasEdge g) (length g.crates)
 edges_stay g orderly a b below edge =
     subst (λ (n : ℕ). n < length g.crates) edge.3 (child_holds g orderly edge.0 edge.1)
+
+pub edges_stay_back : (g : Graph) → IsOrderly g → walk.StaysBelow (HasEdgeFrom g) (length g.crates)
+edges_stay_back g orderly a b below edge =
+    subst (λ (n : ℕ). n < length g.crates) edge.2 (parent_holds g orderly edge.0 edge.1)
 
 -- ---- whether an edge leads from one place to another
 
@@ -81,7 +86,7 @@ module _ (g : Graph) (placed : ArePlaced g.crates) (Joined : ℕ → Type 0) (cr
       (λ (d : DirectDependent). d.place) ds) c.place) crates c.0 whole member in
       subst (λ (m : ℕ). Contains (map (λ (d : DirectDependent). d.place) ds) m) c.2 listed
 
-  pub each_joined : (n : ℕ) → Joined n ↔ Contains (map (λ (d : DirectDependent). d.place) ds) n
+  each_joined : (n : ℕ) → Joined n ↔ Contains (map (λ (d : DirectDependent). d.place) ds) n
   each_joined n = (of_joined n, joined_of n)
 
   -- no two neighbours share an id, so that there are no more neighbours than crates that are joined
@@ -95,7 +100,7 @@ module _ (g : Graph) (placed : ArePlaced g.crates) (Joined : ℕ → Type 0) (cr
       subst (λ (i : List ℕ). Contains (map (λ (c : Crate). c.id) crates) i) (sym here ∙ (ap (id_at g) c.2 ∙ d.is))
       (contains_map (λ (c : Crate). c.id) crates c.0 c.1)
 
-  pub few_joined : IsStrictlySortedBy (by_id g) ds → length ds ≤ length crates
+  few_joined : IsStrictlySortedBy (by_id g) ds → length ds ≤ length crates
   few_joined ascending =
       let id = λ (d : DirectDependent). id_at g d.place in
       let ids = ascends_map (by_id g) (slice_cmp nat_cmp) id (Contains ds) ds (λ x y _ _ below. below)
@@ -134,3 +139,28 @@ module _ (g : Graph) (placed : ArePlaced g.crates) (orderly : IsOrderly g) (plac
 pub dependent_holds : (g : Graph) (place : ℕ) (c : Crate) → Contains (dependents g place) c → Contains g.crates c
 unfolding dependents
 dependent_holds g place c is = (Contains-from_filter _ g.crates c is).0
+
+module _ (g : Graph) (placed : ArePlaced g.crates) (orderly : IsOrderly g) (place : ℕ) (ds : List DirectDependent) where
+  needing_within : (n : ℕ) → HasEdgeFrom g place n → n < length g.crates
+  needing_within n edge = subst (λ (m : ℕ). m < length g.crates) edge.2 (parent_holds g orderly edge.0 edge.1)
+
+  module _ (are : AreDirectDependents g place ds) where
+    needing_joined : (c : Crate) → Contains (dependents g place) c → HasEdgeFrom g place c.place
+    unfolding dependents
+    needing_joined c is = edge_found g c.place place (Contains-from_filter (λ (parent : Crate). list_any
+        (leads parent.place place) g.edges) g.crates c is).1
+
+    needing_kept : (c : Crate) → Contains g.crates c → HasEdgeFrom g place c.place → Contains (dependents g place) c
+    unfolding dependents
+    needing_kept c is edge = Contains-filter
+        (λ (parent : Crate). list_any (leads parent.place place) g.edges) g.crates c is
+        (found_edge g c.place place edge)
+
+    pub each_needing : (n : ℕ) → HasEdgeFrom g place n ↔ Contains (map (λ (d : DirectDependent). d.place) ds) n
+    each_needing = each_joined g placed (HasEdgeFrom g place)
+        (dependents g place) ds (dependent_holds g place) needing_joined needing_kept needing_within are.whole are.sound
+
+    pub few_needing : length ds ≤ length (dependents g place)
+    few_needing = few_joined g placed (HasEdgeFrom g place)
+        (dependents g place) ds (dependent_holds g place) needing_joined needing_kept needing_within are.whole are.sound
+        are.ascending

@@ -16,6 +16,7 @@ pub use Rattle.deny_krates_graph.specs.Orderly
 pub use Rattle.deny_krates_graph.specs.Packages
 pub use Rattle.deny_krates_graph.specs.Read
 pub use Rattle.deny_krates_graph.specs.declared.krate
+pub mod Distances
 pub mod InOrder
 pub mod Nodes
 pub mod Placed

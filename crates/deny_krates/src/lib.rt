@@ -14,6 +14,9 @@
 //! The target of a declaration and that of a resolved dependency are compared as texts, and two of the same meaning are
 //! two. A declaration without target resolves by target edges without target alone.
 //!
+//! The two ways along edges, `Dependencies` and `Dependents`, are what a search of `deny_base_lists` walks; its clauses
+//! speak of steps. Distances are one search along the edges or against them, and their clauses speak of chains of edges.
+//!
 //! A crate's number among the nodes is its place; features follow, crate by crate. So the node of a crate needs no
 //! look-up, and one list of first numbers finds the crate of a feature.
 //!
@@ -31,10 +34,12 @@
 //! alone.
 #![tactic(auto)]
 
+mod distances;
 mod incoming;
 mod krates;
 mod leads;
 mod names;
+mod neighbours;
 mod nodes;
 mod numbers;
 mod resolution;
@@ -45,6 +50,8 @@ pub use deny_base::DepKind;
 pub use deny_krates_graph::{Dependency, DirectDependent, Krate};
 pub use deny_krates_metadata::{MetadataFault, Target};
 pub use deny_krates_sources::{GitSpec, Source, address_in, source_in};
+pub use distances::{dependent_distances, distances_from};
 pub use krates::Krates;
+pub use neighbours::{Dependencies, Dependents};
 pub use nodes::{InEdge, NodeId};
 pub use shown::{kid_at, krate_at, krate_text};

@@ -16,7 +16,7 @@ use Rattle.deny_krates_reach.specs.Reached.{AreDependentsInTurn, AreReached, IsR
 use Rattle.deny_krates_reach.specs.Reached.{last_from}
 use Rattle.deny_krates_reach.specs.Reached.{pair_count}
 use Rattle.deny_krates_reach.specs.private.Executing.{places_executing}
-use Rattle.deny_krates_reach.specs.private.Steps.{HasEdge}
+use Rattle.deny_krates.specs.Steps.{HasEdge}
 use Rattle.deny_krates.proofs.NeighbourLemmas.{edge_found, edges_stay, found_edge}
 use Rattle.deny_krates.specs.Placed.{ArePlaced}
 use Rattle.deny_krates.proofs.PlaceLemmas.{one_place, place_of, place_within, holds_at}

@@ -2,7 +2,6 @@
 #![tactic(auto)]
 
 mod executing;
-mod neighbours;
 mod reach;
 
 pub use executing::executes_at_build_time;

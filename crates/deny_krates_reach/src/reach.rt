@@ -3,9 +3,8 @@ ghost use Rattle.std.specs.Prelude.{◌≤◌, ◌+◌, IfOk, length};
 ghost use Rattle.deny_krates_reach.specs.Reached.{AreReached, pair_count};
 
 use crate::executing::places_executing;
-use crate::neighbours::DependencyGraph;
 use deny_base_lists::{NoMemory, Steps, marks_of, no_distances, reach_from};
-use deny_krates::Krates;
+use deny_krates::{Dependencies, Krates};
 use std::alloc::Global;
 use std::sync::ledger::Ledger;
 
@@ -27,7 +26,7 @@ pub fn build_reach<L: Ledger>(
     let mut distances = no_distances(alloc, list.len())?;
     reach_from(
         alloc,
-        &DependencyGraph { krates },
+        &Dependencies { krates },
         roots.as_slice(),
         &mut distances,
         steps,

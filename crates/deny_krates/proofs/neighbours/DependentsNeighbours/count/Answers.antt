@@ -1,6 +1,6 @@
 use Rattle.std.proofs.Common.{sym}
 use Rattle.deny_krates.proofs.PlaceLemmas.{length_of}
-use Rattle.deny_krates_reach.proofs.neighbours.DependencyGraphNeighbours.count.Goals as goal
+use Rattle.deny_krates.proofs.neighbours.DependentsNeighbours.count.Goals as goal
 
 pub returns : goal.returns
 returns c = sym (length_of c.krates.result.now c.args.self.now.krates.now.crates c.krates.ensures.crates)

@@ -1,6 +1,6 @@
 use Rattle.deny_krates.proofs.NeighbourLemmas.{each_needed, few_needed}
 use Rattle.deny_krates.proofs.PlaceLemmas.{are_placed}
-use Rattle.deny_krates_reach.proofs.neighbours.DependencyGraphNeighbours.neighbours.Goals as goal
+use Rattle.deny_krates.proofs.neighbours.DependenciesNeighbours.neighbours.Goals as goal
 
 pub returns-clause-each : goal.returns-clause-each
 returns-clause-each c =
