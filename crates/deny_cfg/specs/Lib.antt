@@ -10,6 +10,7 @@ pub mod Valid
 pub mod Validating
 pub mod private
 pub use Rattle.deny_cfg_build.specs.BuildingView
+pub use Rattle.deny_cfg_entries.specs.Day
 pub use Rattle.deny_cfg_entries.specs.Entry
 pub use Rattle.deny_cfg_entries.specs.PolicyKey
 pub use Rattle.deny_cfg_entries.specs.Reasons

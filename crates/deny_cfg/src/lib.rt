@@ -32,7 +32,8 @@ mod policy;
 mod validate;
 
 pub use deny_cfg_entries::{
-    PackageSpec, PackageSpecOrExtended, Reason, Scope, equal_specs_match_alike, parse_semver,
+    Day, DayError, PackageSpec, PackageSpecOrExtended, Reason, Scope, equal_specs_match_alike,
+    parse_semver, read_day,
 };
 pub use deny_cfg_index::SpecIndex;
 pub use laws::{one_policy, one_refusal};
