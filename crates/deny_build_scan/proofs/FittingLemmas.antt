@@ -1,20 +1,22 @@
 -- The patterns at the indices of the fitting globs are the fitting ones.
 use Rattle.std.proofs.Common.{◌≡◌, ◌∙◌, ◌+◌, ◌-◌, ◌<◌, ◌≤◌, [], ◌∷◌, suc, ℕ, List, Option, None, Some, ap, arith, inl}
 use Rattle.std.proofs.Common.{inr, length, map, refl, subst, sym, Bor}
-use Rattle.std.specs.Prelude.{◌↔◌, Contains, filter_map, slice_get, slice_index}
+use Rattle.std.specs.Prelude.{◌↔◌, All, Contains, filter_map, slice_get, slice_index}
 use Rattle.std.specs.List.{AllZip, cons_option}
 use Rattle.std.specs.List.Sorted.{IsStrictlyIncreasing}
 use Rattle.std.specs.Str.{chars}
 use Rattle.std.proofs.lemmas.Bool.{cases_lt}
+use Rattle.std.proofs.lemmas.List.Elements.{All-head, All-tail}
 use Rattle.deny_cfg_build.specs.BuildingView.{words_of}
 use Rattle.deny_cfg_build.specs.Globs.{IsGlobOf, extension_text, own_text, patterns_at}
 use Rattle.deny_cfg_build.specs.declared.pattern.GlobPattern.{GlobPattern}
 use Rattle.deny_cfg_build.specs.declared.pattern.GlobPattern.TheVariants.{Builtin, User}
 use Rattle.deny_globs.specs.Fits.{Fits}
-use Rattle.deny_globs.specs.Patterns.{Pattern, tokens_of}
-use Rattle.deny_globs.specs.Sets.{FitsAt}
+use Rattle.deny_globs.specs.Patterns.{Pattern, characters_of, tokens_of}
+use Rattle.deny_globs.specs.Sets.{FitsAt, IsRead}
+use Rattle.deny_globs.specs.Tree.{IsGlob}
 use Rattle.deny_globs.specs.declared.token.Token.{Token}
-use Rattle.deny_base_lists.proofs.Members.{Contains-by_cases, Contains-first, Contains-rest, no_member}
+use Rattle.deny_base_lists.proofs.Members.{Contains-by_cases, Contains-first, Contains-rest, no_member, tail-same}
 use Rattle.deny_build_scan.specs.Globs.{AreFitting, FitsText}
 use Rattle.deny_build_scan.specs.Globs.AreFitting.{fitting, none, other}
 
@@ -46,6 +48,29 @@ rises_least n x [] up there = absurd (no_member x there)
 rises_least n x (i ∷ is) up there = Contains-by_cases i is x there
     (λ same. subst (λ (m : ℕ). n ≤ m) same up.0)
     (λ later. let above = rises_least (i + 1) x is up.1 later in omega (arith, above, up.0))
+
+-- ---- globs with the characters of a text
+
+module _ (text_of : GlobPattern → List ℕ) where
+  one_read : (pattern : GlobPattern) (glob : Pattern) → characters_of glob ≡ chars (text_of pattern) → IsRead glob
+      → IsGlobOf (text_of pattern) glob
+  one_read pattern glob same read = record {
+    characters = same;
+    tokens = subst (λ (cs : List ℕ). IsGlob cs (tokens_of glob)) same read.tokens;
+    only = λ other is. read.only other (subst (λ (cs : List ℕ). IsGlob cs other) (sym same) is);
+  }
+
+  pub all_read : (patterns : List GlobPattern) (globs : List Pattern)
+      → map characters_of globs ≡ map (λ pattern. chars (text_of pattern)) patterns → All IsRead globs
+      → AllZip (λ pattern glob. IsGlobOf (text_of pattern) glob) patterns globs
+  all_read [] [] same read = tt
+  all_read [] (glob ∷ globs) same read = cc
+  all_read (pattern ∷ patterns) [] same read = cc
+  all_read (pattern ∷ patterns) (glob ∷ globs) same read =
+      let first : characters_of glob ≡ chars (text_of pattern) = cc in (
+        one_read pattern glob first (All-head IsRead glob globs read),
+        all_read patterns globs (tail-same same) (All-tail IsRead glob globs read),
+      )
 
 -- ---- patterns that fit
 

@@ -1,27 +1,15 @@
 -- What is seen of a file by the rule that decides it, and of one more file.
-use Rattle.std.proofs.Common.{◌≡◌, ◌∙◌, ◌+◌, ◌<◌, ◌++◌, ◌∷◌, [], ℕ, List, Option, None, Some, ap, append_assoc, get_or}
-use Rattle.std.proofs.Common.{length, map, not, subst, sym, take, Bor}
-use Rattle.std.specs.Prelude.{Contains, IfSome}
+use Rattle.std.proofs.Common.{◌≡◌, ◌∙◌, ◌+◌, ◌<◌, ◌++◌, ◌∷◌, [], ℕ, List, Option, Some, ap, append_assoc, get_or}
+use Rattle.std.proofs.Common.{length, map, not, subst, sym, take}
 use Rattle.std.specs.List.{AllZip}
-use Rattle.std.specs.Option.{option_copied}
 use Rattle.std.proofs.lemmas.List.{map-append, take_more}
 use Rattle.deny_base.specs.declared.span.Kid.{Kid}
-use Rattle.deny_cfg_build.specs.Build.{IsBypassOf, IsReadBuild}
-use Rattle.deny_cfg_build.specs.Globs.{AreGlobsOf, IsGlobOf, IsSetOf, OfBoth, extension_text, own_text}
-use Rattle.deny_cfg_build.specs.Globs.AreGlobsOf.{left_out, none, one_more}
-use Rattle.deny_cfg_build.specs.declared.glob_set.ValidGlobSet.{ValidGlobSet}
-use Rattle.deny_cfg_build.specs.declared.pattern.GlobPattern.{GlobPattern}
-use Rattle.deny_cfg_build.specs.declared.pattern.GlobPattern.TheVariants.{User}
-use Rattle.deny_cfg_build.specs.declared.valid.ValidBuildConfig.{ValidBuildConfig}
-use Rattle.deny_cfg_build.specs.declared.valid.ValidBypass.{ValidBypass}
 use Rattle.deny_build_file.specs.Home.{home_path}
 use Rattle.deny_spec.specs.Building.{Building, Bypass}
 use Rattle.deny_spec.specs.declared.package.Found.{Found}
 use Rattle.deny_spec.specs.declared.package.PackageFile.{PackageFile}
 use Rattle.deny_spec_report.specs.BuildScripts.{used}
 use Rattle.deny_spec_report.specs.PackageFiles.{is_decided_by, step_of}
-use Rattle.deny_globs.specs.Patterns.{Pattern}
-use Rattle.deny_base_lists.proofs.Members.{from_zip_at, there}
 use Rattle.deny_spec.specs.Crates as crates
 use Rattle.deny_spec.specs.Graph.{Crate, kid_of}
 use Rattle.deny_base_disk.specs.Disk.{Disk, Files, IsLater}
@@ -36,7 +24,6 @@ use Rattle.deny_build_scan.specs.declared.order.FilePath.{FilePath}
 use Rattle.deny_build_scan.specs.private.Deciding.{IsDecided, asks_by, is_among}
 use Rattle.deny_build_scan.specs.private.Entries.{IsFoundFor, asks_of, entries_for, entries_of, entries_of_all, gaps_of}
 use Rattle.deny_build_scan.specs.private.Files.{file_of}
-use Rattle.deny_build_scan.specs.private.Reading.{AreOwnRead, AreRead, AreReadIf}
 use Rattle.deny_base_disk.proofs.PieceLemmas.{later_same}
 use Rattle.deny_base_unread.specs.Bound.{Folders}
 use Rattle.deny_base.specs.declared.unread.Unread.{Unread}
@@ -118,37 +105,3 @@ module _ (b : Building) (home : Option (List ℕ)) (c : Crate) (start mid end : 
       ∙ ap (λ p. u0 ++ (entries_of_all b c (paths i) files ++ entries_of b c p file)) path_is
       ∙ ap (λ us. u0 ++ us) (sym (entries_more b home c (λ k. []) start R (paths i) files x.path file zip))
       ∙ (λ j. u0 ++ entries_of_all b c (sym (path_more xs i x inside is) j) (sym pushed j))
-
--- ---- compiled globs and their patterns
-
-read_zip : (text_of : GlobPattern → List ℕ) (wanted patterns : List GlobPattern) (globs : List Pattern)
-    → AreGlobsOf text_of wanted patterns globs
-    → AllZip (λ pattern glob. IsGlobOf (text_of pattern) glob) patterns globs
-read_zip text_of _ _ _ none = tt
-read_zip text_of _ _ _ (one_more {wanted} {patterns} {globs} pattern glob is rest) =
-    (is, read_zip text_of wanted patterns globs rest)
-read_zip text_of _ _ _ (left_out {wanted} {patterns} {globs} pattern byte bad rest) =
-    read_zip text_of wanted patterns globs rest
-
-pub scripts_read : (valid : ValidBuildConfig) → IsReadBuild valid → AreRead extension_text valid.script_extensions
-scripts_read valid is = read_zip extension_text _ valid.script_extensions.patterns valid.script_extensions.set
-    is.made.script_extensions
-
-read_if : {X : Type 0} (wanted_of : X → List GlobPattern) (written : Option X) (valid : Option ValidGlobSet)
-    → OfBoth (λ globs. IsSetOf own_text (wanted_of globs)) written valid → AreReadIf valid
-read_if wanted_of None None is = tt
-read_if wanted_of None (Some set) is = absurd is
-read_if wanted_of (Some globs) None is = absurd is
-read_if wanted_of (Some globs) (Some set) is = read_zip own_text (wanted_of globs) set.patterns set.set is
-
-own_read_at : (valid : ValidBuildConfig) → IsReadBuild valid → (bypass : ValidBypass) → Contains valid.bypass bypass
-    → AreReadIf bypass.allow_globs
-own_read_at valid is bypass holds =
-    let at = there valid.bypass bypass holds in
-    let one = from_zip_at IsBypassOf _ valid.bypass at.0 bypass is.made.bypass at.1 in
-    read_if (map User) one.0.allow_globs bypass.allow_globs one.2.allow_globs
-
-pub own_read : (valid : ValidBuildConfig) → IsReadBuild valid → (o : Option (Bor ValidBypass))
-    → IfSome o (λ bypass. Contains valid.bypass bypass.now) → AreOwnRead (option_copied o)
-own_read valid is None listed = tt
-own_read valid is (Some bypass) listed = own_read_at valid is bypass.now listed

@@ -1,13 +1,13 @@
 //! Which rule decides a file, and what it asks.
-ghost use Rattle.std.specs.Prelude.{◌≡◌, [], IfOk, None, Some, option_map};
+ghost use Rattle.std.specs.Prelude.{◌≡◌, [], IfOk, IfSome, None, Some, option_map};
 ghost use Rattle.std.specs.Option.{option_copied};
 ghost use Rattle.deny_cfg_build.specs.BuildingView.{building_view, bypass_view, path_view};
-ghost use Rattle.deny_cfg_build.specs.Globs.{extension_text};
+ghost use Rattle.deny_cfg_build.specs.Globs.{AreWritten, own_text};
 ghost use Rattle.deny_spec_report.specs.PackageFiles.{path_of_used};
 ghost use Rattle.deny_build_scan.specs.Deciding.{own_texts};
 ghost use Rattle.deny_build_scan.specs.Globs.{AreFitting};
 ghost use Rattle.deny_build_scan.specs.private.Deciding.{IsDecided};
-ghost use Rattle.deny_build_scan.specs.private.Reading.{AreOwnRead, AreRead, own_globs};
+ghost use Rattle.deny_build_scan.specs.private.Reading.{own_globs};
 
 use crate::fitting::{fitting_own, fitting_scripts};
 use deny_base_lists::{List, NoMemory, Text};
@@ -40,8 +40,6 @@ pub(crate) fn decide(
     path: &str,
     indices: &mut Vec<usize>,
 ) -> Result<Decision, NoMemory>
-    requires scripts { AreRead extension_text config.now.script_extensions }
-    requires own { AreOwnRead (option_copied allowed.now.bypass) }
     ensures { IfOk result (IsDecided (building_view config.now)
         (option_map bypass_view (option_copied allowed.now.bypass)) path.now) }
 {
@@ -53,7 +51,8 @@ pub(crate) fn decide(
 }
 
 fn globs_of(bypass: Option<&ValidBypass>) -> Option<&ValidGlobSet>
-    ensures { option_copied result ≡ own_globs (option_copied bypass.entry) }
+    ensures is { option_copied result ≡ own_globs (option_copied bypass.entry) }
+    ensures written { IfSome (option_copied result) (AreWritten own_text) }
 {
     match bypass {
         Some(bypass) => bypass.allow_globs.as_ref(),
@@ -71,7 +70,6 @@ fn by_path(
     path: &str,
     indices: &mut Vec<usize>,
 ) -> Result<Decision, NoMemory>
-    requires own { AreOwnRead (option_copied bypass) }
     requires allowed { path_of_used (option_map bypass_view (option_copied bypass)) path.now
         ≡ Some (path_view file.now) }
     ensures { IfOk result (IsDecided (building_view config.now)
@@ -104,8 +102,6 @@ fn by_globs(
     path: &str,
     indices: &mut Vec<usize>,
 ) -> Result<Decision, NoMemory>
-    requires scripts { AreRead extension_text config.now.script_extensions }
-    requires own { AreOwnRead (option_copied bypass) }
     requires allowed { path_of_used (option_map bypass_view (option_copied bypass)) path.now ≡ None }
     ensures { IfOk result (IsDecided (building_view config.now)
         (option_map bypass_view (option_copied bypass.entry)) path.now) }
@@ -128,7 +124,6 @@ fn by_scripts(
     path: &str,
     indices: &mut Vec<usize>,
 ) -> Result<Decision, NoMemory>
-    requires scripts { AreRead extension_text config.now.script_extensions }
     requires allowed { path_of_used (option_map bypass_view (option_copied bypass)) path.now ≡ None }
     requires own { AreFitting path.now (own_texts (option_map bypass_view (option_copied bypass))) [] }
     ensures { IfOk result (IsDecided (building_view config.now)

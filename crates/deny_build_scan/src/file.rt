@@ -6,7 +6,6 @@ ghost use Rattle.deny_base_unread.specs.Added.{added};
 ghost use Rattle.deny_base_unread.specs.Bound.{Folders};
 ghost use Rattle.deny_base_unread.specs.Causes.{AreCaused};
 ghost use Rattle.deny_cfg_build.specs.BuildingView.{building_view, bypass_view};
-ghost use Rattle.deny_cfg_build.specs.Globs.{extension_text};
 ghost use Rattle.deny_spec_report.specs.BuildScripts.{used};
 ghost use Rattle.deny_krates.specs.Crates.{crate_view};
 ghost use Rattle.deny_spec.specs.Crates as crates;
@@ -15,7 +14,6 @@ ghost use Rattle.deny_build_scan.specs.Seen.{IsFileSeen, of_crate};
 ghost use Rattle.deny_build_scan.specs.Why.{IsBecause};
 ghost use Rattle.deny_build_scan.specs.private.Entries.{IsFoundFor, entries_for, entries_of, gaps_of};
 ghost use Rattle.deny_build_scan.specs.private.Files.{file_of};
-ghost use Rattle.deny_build_scan.specs.private.Reading.{AreOwnRead, AreRead};
 
 use crate::decide::{Asks, decide};
 use crate::paths::below;
@@ -45,8 +43,6 @@ pub(crate) fn see_file<D: PackageFiles>(
     indices: &mut Vec<usize>,
     unread: &mut List<Unread>,
 ) -> Result<PackageFile, NoMemory>
-    requires scripts { AreRead extension_text config.now.script_extensions }
-    requires own { AreOwnRead (option_copied allowed.now.bypass) }
     requires used { (place : ℕ) → used (building_view config.now) (crate_view place krate.now)
         ≡ option_map bypass_view (option_copied allowed.now.bypass) }
     requires root { root.now ≡ crates.folder (crate_view 0 krate.now) }

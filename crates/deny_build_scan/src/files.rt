@@ -7,14 +7,12 @@ ghost use Rattle.deny_base_unread.specs.Added.{added};
 ghost use Rattle.deny_base_unread.specs.Bound.{Folders};
 ghost use Rattle.deny_base_unread.specs.Causes.{AreCaused};
 ghost use Rattle.deny_cfg_build.specs.BuildingView.{building_view, bypass_view};
-ghost use Rattle.deny_cfg_build.specs.Globs.{extension_text};
 ghost use Rattle.deny_spec_report.specs.BuildScripts.{used};
 ghost use Rattle.deny_krates.specs.Crates.{crate_view};
 ghost use Rattle.deny_build_scan.specs.Failures.{calls_for_files};
 ghost use Rattle.deny_build_scan.specs.Seen.{IsFileSeen};
 ghost use Rattle.deny_build_scan.specs.Why.{IsBecause};
 ghost use Rattle.deny_build_scan.specs.private.Entries.{entries_of_all, gaps_of};
-ghost use Rattle.deny_build_scan.specs.private.Reading.{AreOwnRead, AreRead};
 
 use crate::file::see_file;
 use crate::order::FilePath;
@@ -38,8 +36,6 @@ pub(crate) fn see_files<D: PackageFiles>(
     paths: &[FilePath],
     unread: &mut List<Unread>,
 ) -> Result<List<PackageFile>, NoMemory>
-    requires scripts { AreRead extension_text config.now.script_extensions }
-    requires own { AreOwnRead (option_copied bypass) }
     requires used { (place : ℕ) → used (building_view config.now) (crate_view place krate.now)
         ≡ option_map bypass_view (option_copied bypass) }
     ensures seen { IfOk result (λ files. (place : ℕ) (folder : Folders) → AllZip (λ path file.
@@ -87,8 +83,6 @@ fn see_each<D: PackageFiles>(
     unread: &mut List<Unread>,
 ) -> Result<(), NoMemory>
     requires none { files.old ≡ [] }
-    requires scripts { AreRead extension_text config.now.script_extensions }
-    requires own { AreOwnRead (option_copied allowed.now.bypass) }
     requires used { (place : ℕ) → used (building_view config.now) (crate_view place krate.now)
         ≡ option_map bypass_view (option_copied allowed.now.bypass) }
     ensures seen { OnOk result ((place : ℕ) (folder : Folders) → AllZip (λ path file.

@@ -1,10 +1,9 @@
 //! The globs that fit a path, by their texts.
-ghost use Rattle.std.specs.Prelude.{◌≡◌, IfOk, map};
+ghost use Rattle.std.specs.Prelude.{◌≡◌, IfOk, IfSome, map};
 ghost use Rattle.std.specs.Option.{option_copied};
 ghost use Rattle.deny_cfg_build.specs.BuildingView.{globs_view, words_of};
-ghost use Rattle.deny_cfg_build.specs.Globs.{extension_text, own_text};
+ghost use Rattle.deny_cfg_build.specs.Globs.{AreWritten, extension_text, own_text};
 ghost use Rattle.deny_build_scan.specs.Globs.{AreFitting};
-ghost use Rattle.deny_build_scan.specs.private.Reading.{AreRead, AreReadIf};
 
 use deny_base_lists::{List, NoMemory, Text};
 use deny_cfg_build::{GlobPattern, ValidGlobSet};
@@ -17,7 +16,7 @@ pub(crate) fn fitting_own(
     path: &str,
     indices: &mut Vec<usize>,
 ) -> Result<List<Text>, NoMemory>
-    requires { AreReadIf (option_copied globs) }
+    requires { IfSome (option_copied globs) (AreWritten own_text) }
     ensures { IfOk result (AreFitting path.now (map (λ w. w.value) (globs_view (option_copied globs.entry)))) }
 {
     match globs {
@@ -32,9 +31,10 @@ fn fitting_in(
     path: &str,
     indices: &mut Vec<usize>,
 ) -> Result<List<Text>, NoMemory>
-    requires { AreRead own_text globs.now }
+    requires { AreWritten own_text globs.now }
     ensures { IfOk result (AreFitting path.now (map (λ w. w.value) (map words_of globs.now.patterns))) }
 {
+    globs.set.are_read();
     match globs.matches(path, indices)? {
         Some(patterns) => own_texts(alloc, patterns.as_slice()),
         None => Ok(List::new(alloc)),
@@ -49,12 +49,13 @@ pub(crate) fn fitting_scripts(
     path: &str,
     indices: &mut Vec<usize>,
 ) -> Result<List<Text>, NoMemory>
-    requires { AreRead extension_text globs.now }
+    requires { AreWritten extension_text globs.now }
     ensures { IfOk result (AreFitting path.now (map extension_text globs.now.patterns)) }
 {
     if globs.patterns.len() == 0 {
         return Ok(List::new(alloc));
     }
+    globs.set.are_read();
     match globs.matches(path, indices)? {
         Some(patterns) => extension_texts(alloc, patterns.as_slice()),
         None => Ok(List::new(alloc)),

@@ -6,7 +6,6 @@ ghost use Rattle.deny_base_unread.specs.Added.{IsLonger, added};
 ghost use Rattle.deny_base_unread.specs.Bound.{Folders};
 ghost use Rattle.deny_base_unread.specs.Causes.{AreCaused};
 ghost use Rattle.deny_base.specs.Unread.{is_unread};
-ghost use Rattle.deny_cfg_build.specs.Build.{IsReadBuild};
 ghost use Rattle.deny_cfg_build.specs.BuildingView.{building_view};
 ghost use Rattle.deny_build_bypass.specs.Marks.{reached_by};
 ghost use Rattle.deny_krates.specs.Crates.{crate_view};
@@ -41,7 +40,6 @@ pub(crate) fn see_package<D: PackageFiles>(
     disk: &mut D,
     unread: &mut List<Unread>,
 ) -> Result<Package, NoMemory>
-    requires read { IsReadBuild by.now.config.now }
     requires member { Contains by.now.krates.now.crates (crate_view place krate.now) }
     ensures seen { IfOk result (λ contents. (folder : Folders) → folder (Some krate.now.id)
         ≡ crates.folder (crate_view place krate.now) →
@@ -82,7 +80,6 @@ fn walk<D: PackageFiles>(
     disk: &mut D,
     unread: &mut List<Unread>,
 ) -> Result<(), NoMemory>
-    requires { IsReadBuild config.now }
     ensures script { OnOk result (contents.new.script ≡ contents.old.script) }
     ensures seen { OnOk result ((place : ℕ) (folder : Folders) → folder (Some krate.now.id)
         ≡ crates.folder (crate_view place krate.now) →

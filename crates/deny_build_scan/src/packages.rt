@@ -5,7 +5,6 @@ ghost use Rattle.deny_base_disk.specs.Disk.{IsLater};
 ghost use Rattle.deny_base_unread.specs.Added.{IsLonger, added};
 ghost use Rattle.deny_base_unread.specs.Bound.{Folders};
 ghost use Rattle.deny_base_unread.specs.Causes.{AreCaused};
-ghost use Rattle.deny_cfg_build.specs.Build.{IsReadBuild};
 ghost use Rattle.deny_cfg_build.specs.BuildingView.{building_view};
 ghost use Rattle.deny_build_bypass.specs.Marks.{reached_by};
 ghost use Rattle.deny_build_scan.specs.Failures.{calls_for};
@@ -39,7 +38,6 @@ pub fn see_packages<D: PackageFiles>(
     disk: &mut D,
     unread: &mut List<Unread>,
 ) -> Result<List<Package>, NoMemory>
-    requires read { IsReadBuild config.now }
     ensures seen { IfOk result (ArePackagesSeen (D.seen disk.old).files (building_view config.now)
         (reached_by marks.now) (option_copied home.entry) krates.now (added unread.old unread.new)) }
     ensures because { IfOk result (λ packages. (folder : Folders) → AreFoldersOf krates.now folder

@@ -1,4 +1,4 @@
-//! The table `build` is read: its globs, and the built-in ones.
+//! The table `build` of a policy becomes the one that the rules take.
 ghost use Rattle.std.specs.Prelude.{◌≡◌, ◌<◌, ◌^◌, ◌++◌, IfOk, OnErr, OnOk, length, map};
 ghost use Rattle.std.specs.List.{AllZip};
 ghost use Rattle.deny_cfg_build.specs.Build.{HasFiles, IsBuildOf, IsBypassOf, IsMadeOf, build_by};

@@ -8,6 +8,10 @@
 //!
 //! Texts that are no globs are left out of a set, so that what a table `build` says is defined also where something in
 //! it is wrong.
+//!
+//! A table and its entries keep that the characters of their globs are those of the texts of their patterns
+//! (`AreWritten`). With what a set of globs says of itself (`GlobSet::are_read`), whoever matches paths by a table knows
+//! which texts match, and asks nothing of its caller.
 #![tactic(auto)]
 
 mod build;

@@ -41,7 +41,8 @@
 //! and none left out below one that is there. The code does more than the clause: the list is empty then.
 //!
 //! Contracts see a glob as its characters and its tokens, since the bound on steps distinguishes globs with the same
-//! tokens (`*.sh` is simple, `**.sh` is not).
+//! tokens (`*.sh` is simple, `**.sh` is not). That the characters are a glob with these tokens, and with no others, a
+//! set says of each of its globs (`GlobSet::are_read`), to whoever has not seen them added.
 //!
 //! A set is compiled as globs are added. Simple globs are in one list that ascends by their extensions, and a binary
 //! search finds the path's. The others are states, each from its last token back, so that a state leads on to states

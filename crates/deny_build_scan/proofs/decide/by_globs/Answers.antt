@@ -9,5 +9,5 @@ returns-then-len-gt0 c =
     decided_glob (building_view c.args.config.now) (option_map bypass_view (option_copied c.args.bypass))
     c.args.path.now None c.in_ok-globs.globs c.requires.allowed refl
     (own_fit c.args.path.now (option_copied c.globs_of.result) (option_copied c.args.bypass) c.in_ok-globs.globs
-    c.globs_of.ensures c.in_ok-globs.ensures)
+    c.globs_of.ensures.is c.in_ok-globs.ensures)
     (omega (arith, c.if-len-gt0.true, c.len.ensures))

@@ -19,7 +19,7 @@ returns-then-len-gt0 c =
     c.args.path.now (Some (path_view c.args.file.now)) c.in_ok-globs.globs c.requires.allowed
     (path_leaves c.args.file.now c.if-is_none.ensures)
     (own_fit c.args.path.now (option_copied c.globs_of.result) (option_copied c.args.bypass) c.in_ok-globs.globs
-    c.globs_of.ensures c.in_ok-globs.ensures)
+    c.globs_of.ensures.is c.in_ok-globs.ensures)
     (omega (arith, c.if-len-gt0.true, c.len.ensures))
 
 pub returns : goal.returns
@@ -28,5 +28,5 @@ returns c =
     decided_sum (building_view c.args.config.now) (option_map bypass_view (option_copied c.args.bypass))
     c.args.path.now (path_view c.args.file.now) sum.0 c.in_ok-globs.globs c.requires.allowed sum.1
     (own_fit c.args.path.now (option_copied c.globs_of.result) (option_copied c.args.bypass) c.in_ok-globs.globs
-    c.globs_of.ensures c.in_ok-globs.ensures)
+    c.globs_of.ensures.is c.in_ok-globs.ensures)
     (omega (arith, c.if-len-gt0.false, c.len.ensures))

@@ -1,14 +1,9 @@
-use Rattle.std.proofs.Common.{◌∙◌, Bor, Option, ap, option_map, subst, sym}
+use Rattle.std.proofs.Common.{◌∙◌, Bor, Option, ap, option_map, sym}
 use Rattle.std.specs.Option.{option_copied}
 use Rattle.deny_cfg_build.specs.BuildingView.{bypass_view}
 use Rattle.deny_cfg_build.specs.declared.valid.ValidBypass.{ValidBypass}
 use Rattle.deny_base_disk.proofs.PieceLemmas.{later_same}
 use Rattle.deny_build_scan.proofs.files.see_files.Goals as goal
-use Rattle.deny_build_scan.specs.private.Reading.{AreOwnRead}
-
-pub see_each-requires-clause-own : goal.see_each-requires-clause-own
-see_each-requires-clause-own g c =
-    subst (λ (o : Option (Bor ValidBypass)). AreOwnRead (option_copied o)) (sym c.in_ok-allowed.ensures) c.requires.own
 
 pub see_each-requires-clause-used : goal.see_each-requires-clause-used
 see_each-requires-clause-used g c = λ place. c.requires.used place

@@ -1,7 +1,7 @@
 use Rattle.std.proofs.Common.{◌≡◌, ◌∙◌, ℕ, List, None, Some, map, subst, sym}
 use Rattle.deny_cfg_build.specs.Globs.{extension_text, patterns_at}
 use Rattle.deny_base_lists.proofs.Results.{if_ok_then}
-use Rattle.deny_build_scan.proofs.FittingLemmas.{fitting_matched, none_fitting, texts_given}
+use Rattle.deny_build_scan.proofs.FittingLemmas.{all_read, fitting_matched, none_fitting, texts_given}
 use Rattle.deny_build_scan.proofs.fitting.fitting_scripts.Goals as goal
 use Rattle.deny_build_scan.specs.Globs.{AreFitting}
 
@@ -19,7 +19,8 @@ returns-in-Some c = if_ok_then c.extension_texts.result c.extension_texts.ensure
     (sym (texts_given extension_text c.as_slice.result.now c.in-Some.patterns.items texts
     is c.as_slice.ensures.value))
     (fitting_matched extension_text c.args.path.now globs.patterns globs.set c.matches.new.indices.items
-    (Some (map (λ p. p.now) c.in-Some.patterns.items)) c.requires found.ascending found.exact gives))
+    (Some (map (λ p. p.now) c.in-Some.patterns.items))
+    (all_read extension_text globs.patterns globs.set c.requires c.are_read.ensures) found.ascending found.exact gives))
 
 pub returns-in-None : goal.returns-in-None
 returns-in-None c =
@@ -28,5 +29,5 @@ returns-in-None c =
     let gives : None ≡ patterns_at globs.patterns c.matches.new.indices.items = rw c.in-None.is at found.patterns in
     subst (λ (ts : List (List ℕ)). AreFitting c.args.path.now (map extension_text globs.patterns) ts)
     (sym c.new-in-None.ensures)
-    (fitting_matched extension_text c.args.path.now globs.patterns globs.set c.matches.new.indices.items None c.requires
-    found.ascending found.exact gives)
+    (fitting_matched extension_text c.args.path.now globs.patterns globs.set c.matches.new.indices.items None
+    (all_read extension_text globs.patterns globs.set c.requires c.are_read.ensures) found.ascending found.exact gives)

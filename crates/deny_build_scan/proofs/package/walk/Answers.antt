@@ -15,7 +15,6 @@ use Rattle.deny_base_disk.specs.Children.{prefix_of}
 use Rattle.deny_base_disk.proofs.PieceLemmas.{later_then}
 use Rattle.deny_build_scan.proofs.CallLemmas.{folders_counted}
 use Rattle.deny_build_scan.proofs.PackagesLemmas.{caused_next}
-use Rattle.deny_build_scan.proofs.StepLemmas.{own_read, scripts_read}
 use Rattle.deny_build_scan.proofs.WalkLemmas.{few_once, told_all, walk_seen}
 use Rattle.deny_build_scan.proofs.WantedLemmas.{walk_wanted}
 use Rattle.deny_build_scan.proofs.Zips.{zip_weaker}
@@ -38,13 +37,6 @@ use Rattle.deny_build_walk.specs.Folder.{failed_calls}
 use Rattle.deny_build_walk.specs.Walk.{IsFile, IsFolder}
 use Rattle.deny_build_walk.specs.declared.folder.NoList.TheVariants.{Crowded}
 use Rattle.deny_build_walk.specs.declared.walk.Unlisted.{Unlisted}
-
-pub see_files-requires-clause-scripts : goal.see_files-requires-clause-scripts
-see_files-requires-clause-scripts g c = scripts_read c.args.config.now c.requires
-
-pub see_files-requires-clause-own : goal.see_files-requires-clause-own
-see_files-requires-clause-own g c =
-    own_read c.args.config.now c.requires c.used-bypass.result c.used-bypass.ensures.listed
 
 -- the entries of the package are those of folders, followed by those of files
 own_is : (u0 u1 u2 more : List Unread) → IsLonger u0 u1 → u2 ≡ u1 ++ more → added u0 u2 ≡ added u0 u1 ++ more

@@ -24,11 +24,13 @@ use Rattle.deny_base_unread.proofs.ManifestLemmas.{caused_added}
 use Rattle.deny_base_disk.proofs.PieceLemmas.{later_same, later_then}
 use Rattle.deny_base_unread.specs.Added.{added}
 
-pub see_package-requires-clause-member : goal.see_package-requires-clause-member
-see_package-requires-clause-member g c =
-    from_there c.args.krates.now.crates c.loop-place.place (crate_view c.loop-place.place c.krate-item.result)
-    (krate_at c.args.krates.now c.krates-krate-items.result.now c.loop-place.place c.krate-item.result
-    c.krates-krate-items.ensures.crates c.loop-place-test.true c.krate-item.is)
+pub see_package-requires : goal.see_package-requires
+see_package-requires g c = record {
+  member = from_there c.args.krates.now.crates c.loop-place.place
+      (crate_view c.loop-place.place c.krate-item.result)
+      (krate_at c.args.krates.now c.krates-krate-items.result.now c.loop-place.place c.krate-item.result
+      c.krates-krate-items.ensures.crates c.loop-place-test.true c.krate-item.is);
+}
 
 pub loop-place-init : goal.loop-place-init
 loop-place-init g c =
