@@ -1,5 +1,5 @@
--- Chains that are followed from their ends, against the edges.
-use Rattle.std.proofs.Common.{◌≡◌, ◌<◌, ℕ, zero, suc, List, Option, Some, None, length, filter, refl, sym, subst, ◌∙◌}
+-- The crates from which chains lead to places are those that a search against the edges reaches.
+use Rattle.std.proofs.Common.{◌≡◌, ◌<◌, ℕ, List, Option, Some, None, length, filter, refl, sym, subst}
 use Rattle.std.specs.Prelude.{IsTrue, All, Contains, is_some, nat_lt}
 use Rattle.std.proofs.lemmas.Bool.{false≢true, lt-ltb}
 use Rattle.std.proofs.lemmas.List.Elements.{All-weaker, All-contains_itself}
@@ -7,17 +7,14 @@ use Rattle.deny_base_lists.specs.Walk as walk
 use Rattle.deny_base_lists.specs.Walk.{AreThose}
 use Rattle.deny_base_lists.proofs.Members.{Contains-filter, Contains-from_filter}
 use Rattle.deny_base_lists.proofs.TakeBackLemmas.{those_inside}
-use Rattle.deny_base_lists.proofs.WalkLemmas.{chain_more}
-use Rattle.deny_base.specs.declared.edge.Edge.{Edge}
 use Rattle.deny_krates.specs.Dependents.{AreDirectDependents}
 use Rattle.deny_krates.specs.Orderly.{IsOrderly}
 use Rattle.deny_krates.specs.krate.DirectDependent.{DirectDependent}
-use Rattle.deny_spec.specs.Counting.{Chain}
 use Rattle.deny_spec.specs.Graph.{Graph}
 use Rattle.deny_rules_match.specs.Placed.{ArePlaced}
-use Rattle.deny_rules_match.specs.Steps.{HasEdgeFrom}
+use Rattle.deny_krates.specs.Steps.{HasEdgeFrom}
 use Rattle.deny_rules_match.proofs.DependentLemmas.{dependent_within}
-use Rattle.deny_krates.proofs.NeighbourLemmas.{child_holds}
+use Rattle.deny_krates.proofs.ChainLemmas.{chain_of_steps_back, chain_stays, steps_back_of_chain}
 use Rattle.deny_rules_dup_edges.specs.private.Above.{AreAbove, LeadsToOne}
 
 pub each_dependent_holds : (g : Graph) (place : ℕ) (ds : List DirectDependent) → ArePlaced g.crates
@@ -25,33 +22,6 @@ pub each_dependent_holds : (g : Graph) (place : ℕ) (ds : List DirectDependent)
 each_dependent_holds g place ds placed are =
     All-weaker (Contains ds) (λ d. d.place < length g.crates) (dependent_within g place ds placed are) ds
     (All-contains_itself ds)
-
--- ---- chains of steps against the edges
-
-chain_longer : (es : List Edge) (a b n : ℕ) (e : Edge) → Chain es a b n → Contains es e → e.parent ≡ b
-    → Chain es a e.child (suc n)
-chain_longer es a b zero e chain holds from = (e, holds, from ∙ sym chain, refl)
-chain_longer es a b (suc n) e chain holds from =
-    (chain.0, chain.1, chain.2, chain_longer es chain.0.child b n e chain.3 holds from)
-
-chain_of_steps : (g : Graph) (a b n : ℕ) → walk.Chain (HasEdgeFrom g) b a n → Chain g.edges a b n
-chain_of_steps g a b zero chain = sym chain
-chain_of_steps g a b (suc n) chain =
-    let edge = chain.1 in
-    subst (λ (end : ℕ). Chain g.edges a end (suc n)) edge.3
-    (chain_longer g.edges a chain.0 n edge.0 (chain_of_steps g a chain.0 n chain.2) edge.1 edge.2)
-
-steps_of_chain : (g : Graph) (a b n : ℕ) → Chain g.edges a b n → walk.Chain (HasEdgeFrom g) b a n
-steps_of_chain g a b zero chain = sym chain
-steps_of_chain g a b (suc n) chain =
-    let e = chain.0 in
-    chain_more (HasEdgeFrom g) b e.child a n (steps_of_chain g e.child b n chain.3) (e, chain.1, chain.2, refl)
-
--- a chain from a crate leads to a crate
-chain_stays : (g : Graph) (a b n : ℕ) → IsOrderly g → a < length g.crates → Chain g.edges a b n → b < length g.crates
-chain_stays g a b zero orderly inside chain = subst (λ (m : ℕ). m < length g.crates) chain inside
-chain_stays g a b (suc n) orderly inside chain =
-    chain_stays g chain.0.child b n orderly (child_holds g orderly chain.0 chain.1) chain.3
 
 -- ---- the crates that have a distance are those that a chain leads from to one of the places
 
@@ -76,7 +46,7 @@ module _ (g : Graph) (places known : List ℕ) (orderly : IsOrderly g)
       record {
         place = led.root;
         is_one = of_known led.root led.is_root;
-        leads = record { length = d; chain = chain_of_steps g n led.root d led.chain };
+        leads = record { length = d; chain = chain_of_steps_back g n led.root d led.chain };
       }
 
   led_by : (n : ℕ) (d : Option ℕ) → n < length g.crates → walk.IsDistance (HasEdgeFrom g) known n d
@@ -88,7 +58,7 @@ module _ (g : Graph) (places known : List ℕ) (orderly : IsOrderly g)
       absurd (is leads.leads.length (record {
         root = leads.place;
         is_root = known_of leads.place leads.is_one holds;
-        chain = steps_of_chain g n leads.place leads.leads.length chain;
+        chain = steps_back_of_chain g n leads.place leads.leads.length chain;
       }))
 
   pub are_above : (ds : List (Option ℕ)) (reached : List ℕ)

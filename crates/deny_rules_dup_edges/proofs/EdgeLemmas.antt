@@ -21,7 +21,7 @@ use Rattle.deny_rules_dup_edges.specs.private.EdgeLists.{IsBetween, IsGivenEdge,
 use Rattle.deny_rules_match.specs.Placed.{ArePlaced}
 use Rattle.deny_base_lists.proofs.Adding.{adds_same, adds_then}
 use Rattle.deny_krates.proofs.NeighbourLemmas.{child_holds}
-use Rattle.deny_rules_match.proofs.NeighbourLemmas.{each_needing}
+use Rattle.deny_krates.proofs.NeighbourLemmas.{each_needing}
 use Rattle.deny_base_lists.proofs.Members.{no_member}
 
 -- ---- the edges from one crate to another: one of each kind at most

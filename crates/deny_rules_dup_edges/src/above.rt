@@ -1,12 +1,11 @@
 //! The crates that lead to others.
 ghost use Rattle.std.specs.Prelude.{◌≡◌, ◌<◌, IfOk, OnOk, All, filter, length, nat_lt};
 ghost use Rattle.deny_base_lists.specs.Walk.{AreDistances, AreThose, AreUnset};
-ghost use Rattle.deny_rules_match.specs.Steps.{HasEdgeFrom};
+ghost use Rattle.deny_krates.specs.Steps.{HasEdgeFrom};
 ghost use Rattle.deny_rules_dup_edges.specs.private.Above.{AreAbove};
 
 use deny_base_lists::{List, NoMemory, Steps, no_distances, reach_from};
-use deny_krates::Krates;
-use deny_rules_match::DependentSteps;
+use deny_krates::{Dependents, Krates};
 use std::alloc::Global;
 use std::marker::Brand;
 use std::sync::ledger::{Blank, Ledger};
@@ -71,7 +70,7 @@ fn uncounted<L: Ledger>(
     let mut steps = Steps::<L>::new(blank);
     let reached = reach_from(
         alloc,
-        &DependentSteps { krates },
+        &Dependents { krates },
         targets,
         distances,
         &mut steps,

@@ -17,7 +17,7 @@ use Rattle.deny_spec.specs.Match.{matches}
 use Rattle.deny_spec.specs.Policy.{Root}
 use Rattle.deny_spec.specs.Roots.{IsNear, IsInTree}
 use Rattle.deny_base_lists.specs.Walk.{distance_at}
-use Rattle.deny_rules_match.specs.Distances.{IsLedFromRoot, IsCrateDistance, AreCrateDistances}
+use Rattle.deny_krates.specs.Distances.{IsLedFromRoot, IsCrateDistance, AreCrateDistances}
 use Rattle.deny_rules_match.specs.Marks.{marked, AreCounted}
 use Rattle.deny_rules_match.specs.private.Marks.{is_near, IsTreeOf}
 use Rattle.deny_rules_match.specs.Placed.{ArePlaced}

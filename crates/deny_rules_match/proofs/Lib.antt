@@ -3,7 +3,6 @@ pub mod MarkLemmas
 pub mod MatchingLemmas
 pub mod WrapperLemmas
 pub mod DependentLemmas
-pub mod NeighbourLemmas
 pub mod FactLemmas
 pub mod GroupLemmas
 pub mod ExemptLemmas

@@ -1,8 +1,6 @@
-pub mod Distances
 pub mod Groups
 pub mod Marks
 pub mod Matches
 pub mod Placed
-pub mod Steps
 pub mod Wrappers
 pub mod private

@@ -9,13 +9,12 @@ ghost use Rattle.deny_rules_match.specs.Marks.{facts_of, AreCounted};
 ghost use Rattle.deny_rules_match.specs.private.Marks.{is_near, IsTreeOf};
 ghost use Rattle.deny_rules_match.specs.Matches.{root_match, spec_match};
 
-use crate::distances::distances_from;
 use crate::entry_match::{EntryMatch, spec_match};
 use crate::placed::are_placed;
 use deny_base::DepKind;
 use deny_base_lists::{List, NoMemory};
 use deny_cfg::bans::cfg::{ValidConfig, ValidTreeSkip};
-use deny_krates::Krates;
+use deny_krates::{Krates, distances_from};
 use std::alloc::Global;
 
 /// Facts about the crates of a graph, by marks.

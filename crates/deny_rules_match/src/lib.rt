@@ -14,13 +14,9 @@
 //! then by their versions: the index is the graph's own. An index of the entries' names (`SpecIndex`) serves where the
 //! entries that match a given crate are looked for: ignores of what the standard library replaces, exceptions of
 //! licences.
-//!
-//! Distances from roots and the crates above a crate are one breadth-first search, along the edges or against them;
-//! only chains of steps are translated to chains of edges.
 #![tactic(auto)]
 
 mod crate_keys;
-mod distances;
 mod entry_match;
 mod exempt;
 mod facts;
@@ -28,7 +24,6 @@ mod groups;
 mod marking;
 mod matches;
 mod matching;
-mod neighbours;
 mod placed;
 mod shown;
 mod wrappers;
@@ -40,7 +35,6 @@ pub use groups::{Groups, reduced_len};
 pub use marking::{mark_at, mark_each, marked, no_marks, unmarked};
 pub use matches::{BanMatch, Matches};
 pub use matching::matched;
-pub use neighbours::DependentSteps;
 pub use placed::are_placed;
 pub use shown::krate_name;
 pub use wrappers::{span_at, spans_by_name, wrappers_of};

@@ -1,7 +1,7 @@
 use Rattle.std.proofs.Common.{◌≡◌, ◌∙◌, ◌<◌, ℕ, List, Result, Ok, Err, IfOk, OnOk, length, filter, sym, ap, subst}
 use Rattle.std.specs.Prelude.{All, nat_lt}
 use Rattle.deny_base_lists.specs.Walk as walk
-use Rattle.deny_rules_match.specs.Steps.{HasEdgeFrom}
+use Rattle.deny_krates.specs.Steps.{HasEdgeFrom}
 use Rattle.deny_krates.proofs.PlaceLemmas.{length_of}
 use Rattle.deny_rules_dup_edges.specs.private.Above.{AreAbove}
 use Rattle.deny_rules_dup_edges.proofs.AboveLemmas.{are_above}

@@ -1,5 +1,5 @@
 use Rattle.std.proofs.Common.{arith}
-use Rattle.deny_rules_match.proofs.NeighbourLemmas.{edges_stay_back}
+use Rattle.deny_krates.proofs.NeighbourLemmas.{edges_stay_back}
 use Rattle.deny_krates.proofs.PlaceLemmas.{length_of}
 use Rattle.deny_rules_dup_edges.proofs.above.uncounted.Goals as goal
 
