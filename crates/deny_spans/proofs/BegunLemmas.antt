@@ -1,6 +1,6 @@
 -- What is there of the files of manifests after an error.
-use Rattle.std.proofs.Common.{◌≡◌, ◌∙◌, ◌+◌, ◌<◌, ◌^◌, ◌++◌, ◌∷◌, [], ℕ, List, Option, None, Some, IsUtf8, ap, append-nil}
-use Rattle.std.proofs.Common.{append_assoc, cond, drop, inl, inr, length, map, refl, subst, sym, take}
+use Rattle.std.proofs.Common.{◌≡◌, ◌∙◌, ◌+◌, ◌<◌, ◌^◌, ◌++◌, ◌∷◌, [], ℕ, List, Option, None, Some, IsUtf8, ap}
+use Rattle.std.proofs.Common.{append-nil, append_assoc, cond, drop, inl, inr, length, map, refl, subst, sym, take}
 use Rattle.std.specs.Prelude.{◌||◌, Contains, IfSome, OnErr, Result, is_some, option_map, slice_get}
 use Rattle.std.specs.List.{flat_map}
 use Rattle.std.specs.Option.{option_map_or}
