@@ -11,7 +11,7 @@ use std::alloc::Global;
 
 // `app` needs `x` 1.9.0 as a normal and as a build dependency, and `y` for its tests; `y` needs
 // both versions of `x`; nothing needs `z`.
-const GRAPH: &str = r#"{"packages":[
+pub(crate) const GRAPH: &str = r#"{"packages":[
 {"name":"x","version":"1.10.0","id":"r#x@1.10.0","manifest_path":"/r/x-1.10.0/Cargo.toml","source":"registry+https://github.com/rust-lang/crates.io-index","license":"MIT"},
 {"name":"x","version":"1.9.0","id":"g#x@1.9.0","manifest_path":"/g/x/Cargo.toml","source":"git+https://example.com/x?tag=v1#0123","features":{"std":["alloc"],"alloc":[]}},
 {"name":"y","version":"0.1.0-rc.1","id":"y","manifest_path":"/y","source":"sparse+https://example.com/index/","publish":["here","there"]},
@@ -62,7 +62,7 @@ fn are_in_order(krates: &Krates) -> bool {
         && krates.workspace_root() == "/w"
 }
 
-fn are_neighbours(found: &[DirectDependent], expected: &[(u32, DepKind)]) -> bool {
+pub(crate) fn are_neighbours(found: &[DirectDependent], expected: &[(u32, DepKind)]) -> bool {
     let mut all = found.len() == expected.len();
     for (place, (neighbour, kind)) in expected.iter().enumerate() {
         all = all
@@ -75,7 +75,7 @@ fn are_neighbours(found: &[DirectDependent], expected: &[(u32, DepKind)]) -> boo
     all
 }
 
-fn is_place(krates: &Krates, place: u32) -> bool
+pub(crate) fn is_place(krates: &Krates, place: u32) -> bool
     ensures { IsTrue result → place < length krates.now.crates }
 {
     (place as usize) < krates.krates().len()
