@@ -42,6 +42,7 @@ kind_word kind.Unknown = codes "unknown"
 kind_word kind.Missing = codes "missing"
 kind_word kind.WrongKind = codes "wrong-kind"
 kind_word kind.Unreadable = codes "unreadable"
+kind_word kind.NoToday = codes "no-today"
 
 unfoldable pub fault_value : ConfigFault → Data
 fault_value fault = object

@@ -65,6 +65,7 @@ fn kind_word(kind: FaultKind) -> &'static str
         FaultKind::Missing => "missing",
         FaultKind::WrongKind => "wrong-kind",
         FaultKind::Unreadable => "unreadable",
+        FaultKind::NoToday => "no-today",
     }
 }
 
