@@ -1,5 +1,9 @@
 pub mod HitLemmas
+pub mod JoinedChecksLemmas
+pub mod JoinedLemmas
+pub mod JudgedLemmas
 pub mod KeyLemmas
 pub mod MatchLemmas
+pub mod NumberLemmas
 pub mod ScanLemmas
 pub mod SetLemmas

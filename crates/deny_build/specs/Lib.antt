@@ -1,3 +1,6 @@
 -- What the contracts of this crate cite.
+pub mod Joined
+pub mod JoinedChecks
+pub mod OneCrate
 pub mod ScanningOf
 pub mod private

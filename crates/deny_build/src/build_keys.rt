@@ -42,8 +42,8 @@ fn add_package_keys(
     Ok(())
 }
 
-/// Adds the keys of all crates.
-fn add_keys_of_each(
+/// Adds the keys of the crates that are judged.
+pub fn add_keys_of_each(
     alloc: Global,
     ctx: &BuildCtx<'_>,
     all: &[ScannedKrate<'_>],
@@ -51,7 +51,7 @@ fn add_keys_of_each(
 ) -> Result<(), NoMemory>
     requires { AreScannedKrates (scanning_of ctx.now) all.now }
     ensures { OnOk result (keys.new
-        ≡ keys.old ++ flat_map (package_keys (scanning_of ctx.now)) ctx.now.krates.now.crates) }
+        ≡ keys.old ++ flat_map (package_keys (scanning_of ctx.now)) (scanning_of ctx.now).graph.crates) }
 {
     let scripts = script_set(alloc, ctx.config)?;
     for at in all {

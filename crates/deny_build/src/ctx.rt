@@ -1,6 +1,7 @@
 //! The context of the build check.
 ghost use Rattle.std.specs.Prelude.{◌≡◌};
 ghost use Rattle.deny_spec.specs.Unseen.{package_at, unseen_package};
+ghost use Rattle.deny_build.specs.ScanningOf.{scanning_of};
 
 use deny_base_lists::List;
 use deny_build_bypass::Checking;
@@ -9,13 +10,17 @@ use deny_krates::{Krate, Krates};
 use deny_spec::Package;
 use std::alloc::Global;
 
-/// The context of the build check: its configuration, the graph, for each place a mark whether the
-/// crate leads to one that executes at build time, and what was seen of its package.
+/// The context of the build check: its configuration, the graph, and for each place a mark whether
+/// the crate leads to one that executes at build time.
 #[derive(Clone, Copy)]
 pub struct BuildCtx<'a> {
     pub config: &'a ValidBuildConfig,
     pub krates: &'a Krates,
     pub marks: &'a [bool],
+    /// The place of the crate that is judged alone; without one all are judged.
+    pub alone: Option<u32>,
+    /// What was seen of the packages, by the places of their crates, from that of the crate that is
+    /// judged alone on.
     pub packages: &'a [Package],
 }
 
@@ -46,11 +51,18 @@ pub(crate) fn unseen_package(alloc: Global) -> Package
 }
 
 /// The package of the crate at a place, as it was seen.
-pub(crate) fn package_at<'p>(
-    packages: &'p [Package],
-    place: u32,
-    unseen: &'p Package,
-) -> &'p Package
+pub(crate) fn package_of<'a>(ctx: &BuildCtx<'a>, place: u32, unseen: &'a Package) -> &'a Package
+    requires { unseen.now ≡ unseen_package }
+    ensures { result.now ≡ package_at (scanning_of ctx.now).packages place }
+{
+    match ctx.alone {
+        Some(first) if place < first => unseen,
+        Some(first) => package_at(ctx.packages, place - first, unseen),
+        None => package_at(ctx.packages, place, unseen),
+    }
+}
+
+fn package_at<'p>(packages: &'p [Package], place: u32, unseen: &'p Package) -> &'p Package
     requires { unseen.now ≡ unseen_package }
     ensures { result.now ≡ package_at packages.now place }
 {

@@ -271,7 +271,7 @@ fn hits_of_all<'a>(
 }
 
 /// The hits of all bypasses, by the crates that use them.
-fn hits_by<'a>(
+pub fn hits_by<'a>(
     alloc: Global,
     ctx: &'a BuildCtx<'a>,
     users: &Users<'_, 'a>,

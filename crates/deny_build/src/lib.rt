@@ -6,6 +6,10 @@
 //!
 //! Findings of files are in the order of their codes, entries, and paths as they are shown, byte by byte; the first
 //! file that hits a path or a glob is that by components, `a/b` before `a-b`.
+//!
+//! A crate is judged alone by the functions that judge all: the context names the crate, its graph is read as if that
+//! were its only crate, and its packages begin at the place of the crate. So keys and hits of one crate need no rule of
+//! their own, and keep their places.
 #![tactic(auto)]
 
 mod build_keys;
@@ -16,6 +20,8 @@ mod files;
 mod glob_texts;
 mod hits;
 mod keys;
+mod krate_check;
+mod laws;
 mod matched;
 mod scanned_krate;
 mod scanning;
@@ -32,3 +38,5 @@ pub use deny_build_file::{
 pub use deny_krates_reach::build_reach;
 pub use deprecated::add_deprecated_keys;
 pub use hits::bypass_hits;
+pub use krate_check::{BuildNotes, check_build};
+pub use laws::{joined_checks, joined_keys};

@@ -30,7 +30,7 @@ module _ (g : Graph) (ks : List Krate) (same : crates_from 0 ks ≡ g.crates) wh
   viewed None k d is = absurd (none-some d is)
   viewed (Some krate) k d is = ap (λ (c : Crate). c.place) (sym (same_Some (crate_view k krate) d is))
 
-  place_at : (k : ℕ) (d : Crate) → slice_get g.crates k ≡ Some d → d.place ≡ k
+  pub place_at : (k : ℕ) (d : Crate) → slice_get g.crates k ≡ Some d → d.place ≡ k
   place_at k d at = viewed (slice_get ks k) k d
       (sym (crates-at ks k) ∙ ap (λ cs. slice_get cs k) same ∙ at)
 

@@ -19,12 +19,12 @@ use Rattle.deny_base_disk.specs.Disk.{Disk, Files, IsLater}
 use Rattle.deny_build_scan.proofs.Among.{file_among, lists_among, sum_weaker, walk_weaker}
 use Rattle.deny_build_scan.proofs.FilesLemmas.{because_wider, failed_noted}
 use Rattle.deny_build_scan.specs.Seen.{AreBoth, IsNotWalked, IsPackageSeenBy, IsScriptSeen, IsWalkSeen, script_asked}
-use Rattle.deny_build_scan.specs.Wanted.{IsWantedOf}
+use Rattle.deny_build_scan.specs.Wanted.{AreWantedOf, IsWantedOf}
 use Rattle.deny_build_scan.specs.Wanted.IsWantedOf.{by_folder, by_header, by_script, by_sum}
 use Rattle.deny_build_scan.specs.Why.{IsBecause, Why}
 use Rattle.deny_build_scan.specs.private.Entries.{is_failed, noted}
 use Rattle.deny_build_scan.specs.private.Scripts.{entries_of_script, gaps_of_script}
-use Rattle.deny_build_scan.specs.private.Walks.{AreOfWalk, AreWantedOf, IsOfWalk}
+use Rattle.deny_build_scan.specs.private.Walks.{AreOfWalk, IsOfWalk}
 use Rattle.deny_build_scan.specs.private.Walks.IsOfWalk.{of_folder, of_header, of_sum}
 use Rattle.deny_base_unread.proofs.AddedLemmas.{added_is, added_then, longer_is}
 use Rattle.deny_base_disk.proofs.PieceLemmas.{later_same}

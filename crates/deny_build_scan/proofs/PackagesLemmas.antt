@@ -21,10 +21,9 @@ use Rattle.deny_build_scan.proofs.Among.{AreSameGaps, package_weaker, wanted_of_
 use Rattle.deny_build_scan.proofs.FilesLemmas.{because_wider}
 use Rattle.deny_build_scan.proofs.Zips.{zip_each}
 use Rattle.deny_build_scan.specs.Seen.{ArePackagesSeen, ArePackagesSeenBy, IsPackageSeen}
-use Rattle.deny_build_scan.specs.Wanted.{AreWantedPackages, IsWantedOf}
+use Rattle.deny_build_scan.specs.Wanted.{AreWantedOf, AreWantedPackages, IsWantedOf}
 use Rattle.deny_build_scan.specs.Wanted.IsWantedOf.{by_folder, by_header, by_script, by_sum}
 use Rattle.deny_build_scan.specs.Why.{AreFoldersOf, IsBecause, IsOfPurpose}
-use Rattle.deny_build_scan.specs.private.Walks.{AreWantedOf}
 use Rattle.deny_base_unread.proofs.AddedLemmas.{added_then}
 use Rattle.deny_base_unread.proofs.CauseLemmas.{caused_then}
 use Rattle.deny_base_disk.proofs.PieceLemmas.{later_same}
@@ -79,14 +78,14 @@ module _ (told : Option Files) (b : Building) (reached : Crate → Bool) (home :
     wanted = λ u there. absurd (no_member u (subst (λ (vs : List Unread). Contains vs u) none there));
   }
 
-  wanted_krate : (us : List Unread) (c : Crate) (p : Package) (u : Unread) → IsWantedOf told b reached g us c p u
+  pub wanted_krate : (us : List Unread) (c : Crate) (p : Package) (u : Unread) → IsWantedOf told b reached g us c p u
       → u.krate ≡ Some (kid_of c)
   wanted_krate us c p u (by_script target asks_it is) = ap (λ (v : Unread). v.krate) is
   wanted_krate us c p u (by_folder path walked lies is) = ap (λ (v : Unread). v.krate) is
   wanted_krate us c p u (by_header path file is) = ap (λ (v : Unread). v.krate) is
   wanted_krate us c p u (by_sum path sum file is) = ap (λ (v : Unread). v.krate) is
 
-  same_kid : (c d : Crate) → Some (kid_of c) ≡ Some (kid_of d) → c.id ≡ d.id
+  pub same_kid : (c d : Crate) → Some (kid_of c) ≡ Some (kid_of d) → c.id ≡ d.id
   same_kid c d same = ap (λ (k : Kid). k.0) (same_Some (kid_of c) (kid_of d) same)
 
   -- ---- one more crate

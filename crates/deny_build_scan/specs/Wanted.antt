@@ -43,6 +43,11 @@ pub data IsWantedOf (told : Option Files) (b : Building) (reached : Crate → Bo
   by_sum : (path : List ℕ) (sum : Spanned (List ℕ)) → IsFileOf told b unread c contents path (BySum sum)
       → u ≡ asked (Some (kid_of c)) purpose.Sum path → IsWantedOf told b reached g unread c contents u
 
+-- each entry of a crate is for something that is read of its package
+abbrev pub AreWantedOf : Option Files → Building → (Crate → Bool) → Graph → List Unread → Crate → Package → Type 0
+AreWantedOf told b reached g own c contents =
+    (u : Unread) → Contains own u → IsWantedOf told b reached g own c contents u
+
 -- the entry is for one of the crates and its package
 pub record IsWantedPackage (told : Option Files) (b : Building) (reached : Crate → Bool) (g : Graph)
     (unread : List Unread) (packages : List Package) (u : Unread) : Type 0 where

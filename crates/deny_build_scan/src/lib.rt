@@ -31,4 +31,5 @@ mod read;
 mod script;
 
 pub use laws::one_sight;
+pub use package::see_package;
 pub use packages::see_packages;

@@ -12,8 +12,9 @@ ghost use Rattle.deny_krates.specs.Crates.{crate_view};
 ghost use Rattle.deny_spec.specs.Crates as crates;
 ghost use Rattle.deny_build_scan.specs.Failures.{calls_for, calls_for_files, calls_for_folders};
 ghost use Rattle.deny_build_scan.specs.Seen.{IsPackageSeen, IsWalkSeen};
+ghost use Rattle.deny_build_scan.specs.Wanted.{AreWantedOf};
 ghost use Rattle.deny_build_scan.specs.Why.{IsBecause};
-ghost use Rattle.deny_build_scan.specs.private.Walks.{AreOfWalk, AreWantedOf};
+ghost use Rattle.deny_build_scan.specs.private.Walks.{AreOfWalk};
 
 use crate::files::see_files;
 use crate::folders::folders_unseen;
@@ -30,8 +31,11 @@ use deny_spec::Package;
 use std::alloc::Global;
 
 /// What is seen of the package of the crate at a place: its script, if that is read, and its files,
-/// if the crate is walked.
-pub(crate) fn see_package<D: PackageFiles>(
+/// if the crate is walked. Paths are shown below `home`, cargo's home, where there is one.
+///
+/// What cannot be read has its failure in the package, and one entry at the end of `unread`. Each
+/// call that failed has such a failure.
+pub fn see_package<D: PackageFiles>(
     alloc: Global,
     by: &Checking<'_>,
     home: Option<&str>,

@@ -137,6 +137,7 @@ fn build_ctx<'a>(
         config,
         krates,
         marks: scan.reached.as_slice(),
+        alone: None,
         packages: scan.packages.as_slice(),
     }
 }

@@ -29,3 +29,13 @@ pub(crate) const B_NEEDS_A: &str = r#"{"packages":[
 {"name":"b","version":"0.1.0","id":"b","manifest_path":"/w/Cargo.toml"}],
 "workspace_members":["b"],"workspace_root":"/w",
 "resolve":{"nodes":[{"id":"a"},{"id":"b","deps":[{"pkg":"a"}]}]}}"#;
+
+/// `app` needs two versions of the procedural macro `p`.
+pub(crate) const TWO_P: &str = r#"{"packages":[
+{"name":"app","version":"0.1.0","id":"app","manifest_path":"/w/Cargo.toml"},
+{"name":"p","version":"1.0.0","id":"p1","manifest_path":"/r/p-1.0.0/Cargo.toml","source":"registry+https://github.com/rust-lang/crates.io-index",
+"targets":[{"kind":["proc-macro"],"src_path":"/r/p-1.0.0/src/lib.rs"}]},
+{"name":"p","version":"2.0.0","id":"p2","manifest_path":"/r/p-2.0.0/Cargo.toml","source":"registry+https://github.com/rust-lang/crates.io-index",
+"targets":[{"kind":["proc-macro"],"src_path":"/r/p-2.0.0/src/lib.rs"}]}],
+"workspace_members":["app"],"workspace_root":"/w",
+"resolve":{"nodes":[{"id":"app","deps":[{"pkg":"p1"},{"pkg":"p2"}]},{"id":"p1"},{"id":"p2"}]}}"#;

@@ -6,6 +6,8 @@
 #[cfg(test)]
 mod base;
 #[cfg(test)]
+mod builds;
+#[cfg(test)]
 mod distances;
 #[cfg(test)]
 mod dup_edges;

@@ -1,22 +1,18 @@
 -- The entries for one package.
-use Rattle.std.specs.Prelude.{◌≡◌, ℕ, Bool, Contains, IfSome, List, Option, Some}
+use Rattle.std.specs.Prelude.{◌≡◌, ℕ, Contains, IfSome, List, Option, Some}
 use Rattle.deny_base.specs.declared.span.Spanned.{Spanned}
 use Rattle.deny_spec.specs.Building.{Building}
 use Rattle.deny_spec.specs.declared.package.Package.{Package}
 use Rattle.deny_spec_report.specs.PackageFiles.{ByHeader, BySum}
 use Rattle.deny_spec.specs.Crates.{folder, is_git_source}
-use Rattle.deny_spec.specs.Graph.{Crate, Graph, kid_of}
+use Rattle.deny_spec.specs.Graph.{Crate, kid_of}
 use Rattle.deny_base_disk.specs.Disk.{Files}
-use Rattle.deny_build_scan.specs.Wanted.{IsFileOf, IsWantedOf}
+use Rattle.deny_build_scan.specs.Wanted.{IsFileOf}
 use Rattle.deny_base.specs.Unread.{asked}
 use Rattle.deny_base_unread.specs.View.{view_of}
 use Rattle.deny_base.specs.declared.purpose.Purpose.TheVariants as purpose
 use Rattle.deny_base.specs.declared.unread.Unread.{Unread}
 use Rattle.deny_build_walk.specs.Walk.{IsFolder}
-
-abbrev pub AreWantedOf : Option Files → Building → (Crate → Bool) → Graph → List Unread → Crate → Package → Type 0
-AreWantedOf told b reached g own c contents =
-    (u : Unread) → Contains own u → IsWantedOf told b reached g own c contents u
 
 -- the entry is for a walked package
 pub data IsOfWalk (told : Option Files) (b : Building) (own : List Unread) (c : Crate) (contents : Package) (u : Unread)

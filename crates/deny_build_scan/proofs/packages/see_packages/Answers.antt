@@ -16,8 +16,8 @@ use Rattle.deny_build_scan.proofs.PackagesLemmas.{so_far_more, so_far_none}
 use Rattle.deny_base_disk.specs.Disk.{Files}
 use Rattle.deny_build_scan.proofs.packages.see_packages.Goals as goal
 use Rattle.deny_build_scan.specs.Seen.{IsPackageSeen}
+use Rattle.deny_build_scan.specs.Wanted.{AreWantedOf}
 use Rattle.deny_build_scan.specs.Why.{IsBecause}
-use Rattle.deny_build_scan.specs.private.Walks.{AreWantedOf}
 use Rattle.deny_base_unread.proofs.AddedLemmas.{added_is, added_then, longer_is, longer_then}
 use Rattle.deny_base_unread.proofs.CauseLemmas.{caused_none}
 use Rattle.deny_base_unread.proofs.ManifestLemmas.{caused_added}

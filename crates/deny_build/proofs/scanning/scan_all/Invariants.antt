@@ -2,7 +2,7 @@ use Rattle.std.proofs.Common.{◌≡◌, ◌++◌, drop, map}
 use Rattle.deny_krates.specs.Crates.{crates_from}
 use Rattle.deny_build.specs.ScanningOf.{scanning_of}
 use Rattle.deny_build.specs.private.ScannedKrates.{scanned_view}
-use Rattle.deny_build.proofs.scanning.scan_each.Given as goal
+use Rattle.deny_build.proofs.scanning.scan_all.Given as goal
 
 abbrev pub invariant-loop-place : goal.invariant-loop-place
 invariant-loop-place l =
