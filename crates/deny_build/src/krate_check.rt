@@ -9,7 +9,6 @@ ghost use Rattle.deny_base_unread.specs.Added.{IsLonger, added};
 ghost use Rattle.deny_base_unread.specs.Bound.{Folders};
 ghost use Rattle.deny_base_unread.specs.Causes.{AreCaused};
 ghost use Rattle.deny_build_bypass.specs.Marks.{reached_by};
-ghost use Rattle.deny_cfg_build.specs.Build.{IsReadBuild};
 ghost use Rattle.deny_cfg_build.specs.BuildingView.{building_view};
 ghost use Rattle.deny_cfg_entries.specs.SpecView.{spec_view};
 ghost use Rattle.deny_krates.specs.Crates.{crate_view};
@@ -66,7 +65,6 @@ pub fn check_build<D: PackageFiles>(
     keys: &mut List<Key>,
     notes: &mut BuildNotes,
 ) -> Result<Option<usize>, NoMemory>
-    requires read { IsReadBuild config.now }
     requires placed { slice_get krates.now.crates place ≡ Some (crate_view place krate.now) }
     ensures number { IfOk result (λ number. number
         ≡ number_used (building_view config.now) krates.now (reached_by reach.now) (crate_view place krate.now)) }

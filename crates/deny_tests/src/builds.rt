@@ -1,6 +1,5 @@
 //! The build check of one crate.
-ghost use Rattle.std.specs.Prelude.{◌<◌, ◌≡◌, ◌^◌, IfSome, Some, length, slice_get};
-ghost use Rattle.deny_cfg_build.specs.Build.{IsReadBuild};
+ghost use Rattle.std.specs.Prelude.{◌<◌, ◌≡◌, ◌^◌, Some, length, slice_get};
 ghost use Rattle.deny_krates.specs.Crates.{crate_view};
 
 use crate::graphs::TWO_P;
@@ -75,7 +74,6 @@ fn checked(
     krate: &Krate,
     disk: &mut MemoryDisk,
 ) -> Result<Text, NoMemory>
-    requires read { IsReadBuild config.now }
     requires placed { slice_get krates.now.crates place ≡ Some (crate_view place krate.now) }
 {
     let mut keys = List::new(alloc);
@@ -108,9 +106,7 @@ fn checked_at(
     config: &ValidBuildConfig,
     place: u32,
     disk: &mut MemoryDisk,
-) -> Result<Text, NoMemory>
-    requires { IsReadBuild config.now }
-{
+) -> Result<Text, NoMemory> {
     match built(alloc, TWO_P) {
         Ok(krates) => match krates.krates().get(place as usize) {
             Some(krate) => checked(alloc, config, &krates, place, krate, disk),
@@ -120,10 +116,8 @@ fn checked_at(
     }
 }
 
-#[tactic(auto, using(deny_cfg::proofs::BuiltLaws::globs_read))]
 fn config(alloc: Global, policy: &'static [u8]) -> Option<ValidBuildConfig>
     requires { length policy.now < 2 ^ 28 }
-    ensures { IfSome result IsReadBuild }
 {
     let mut files = Files::new(alloc);
     match read_policy(alloc, policy, &mut files) {
