@@ -2,7 +2,7 @@
 
 use deny_base::Span;
 use deny_cfg::bans::cfg::{Checksum, ChecksumParseError};
-use deny_cfg::{PackageSpec, PolicyError, parse_semver};
+use deny_cfg::{Day, DayError, PackageSpec, PolicyError, parse_semver, read_day};
 use deny_toml::{Content, CowStr, DeserError, Deserialize, FaultKind, Scalar, Value};
 use std::alloc::Global;
 use std::str::FromStr;
@@ -124,6 +124,47 @@ fn are_unreadable(alloc: Global) -> bool {
 #[test]
 fn two_or_three_numbers_are_a_version(rt: HostRuntime) {
     assert!(rt; are_versions(rt.alloc()) && are_unreadable(rt.alloc()));
+}
+
+fn is_day(alloc: Global, text: &str, number: i32) -> bool {
+    matches!(read_day(alloc, text), Ok(day) if day == Day(number))
+}
+
+/// Days by Python's `datetime`: the ordinal of the date, less that of 1970-01-01.
+fn are_days(alloc: Global) -> bool {
+    is_day(alloc, "2026-01-31", 20484)
+        && is_day(alloc, "2024-02-29", 19782)
+        && is_day(alloc, "2000-02-29", 11016)
+        && is_day(alloc, "1970-01-01", 0)
+        && is_day(alloc, "1969-12-31", -1)
+        && is_day(alloc, "0001-01-01", -719162)
+        && is_day(alloc, "9999-12-31", 2932896)
+}
+
+fn are_no_days(alloc: Global) -> bool {
+    let mut all = true;
+    for text in [
+        "2025-02-29",
+        "1900-02-29",
+        "2026-02-30",
+        "2026-13-01",
+        "2026-00-01",
+        "2026-01-00",
+        "2026-2-3",
+        "2026-01-31T00:00:00",
+        "20260131",
+        "+026-01-31",
+        "2026-01-3a",
+        "",
+    ] {
+        all = all && matches!(read_day(alloc, text), Err(DayError::Form));
+    }
+    all
+}
+
+#[test]
+fn ten_bytes_are_a_day(rt: HostRuntime) {
+    assert!(rt; are_days(rt.alloc()) && are_no_days(rt.alloc()));
 }
 
 const UPPER: &str = "ABABABABABABABABABABABABABABABABABABABABABABABABABABABABABABABAB";

@@ -70,6 +70,38 @@ fn an_optional_value_is_read_with_its_span(rt: HostRuntime) -> Result<(), NoMemo
     Ok(())
 }
 
+const DATES: &str = "day = 2026-01-31\ntime = 07:32:00\nboth = 2026-01-31 07:32:00Z\n\
+    text = \"2026-01-31\"\nnumber = 2026\n";
+
+fn is_date(value: &Value, path: &str, date: &str) -> bool {
+    match value.pointer(path) {
+        Some(value) => matches!(value.as_date(), Some(text) if text == date),
+        None => false,
+    }
+}
+
+fn is_no_date(value: &Value, path: &str) -> bool {
+    match value.pointer(path) {
+        Some(value) => value.as_date().is_none(),
+        None => false,
+    }
+}
+
+#[test]
+fn a_date_is_its_text(rt: HostRuntime) -> Result<(), NoMemory> {
+    let value = value_of(rt.alloc(), DATES)?;
+    let dates = is_date(&value, "/day", "2026-01-31")
+        && is_date(&value, "/time", "07:32:00")
+        && is_date(&value, "/both", "2026-01-31 07:32:00Z");
+    assert!(rt;
+        dates
+            && is_no_date(&value, "/text")
+            && is_no_date(&value, "/number")
+            && is_no_date(&value, "")
+    );
+    Ok(())
+}
+
 fn misses_gone(alloc: Global, helper: &mut TableHelper) -> bool {
     let missing = faults_of(helper.required::<u32>("gone").map(|_| ()), alloc);
     is_fault(missing.as_slice(), 0, FaultKind::Missing, "gone", 0)
