@@ -176,7 +176,7 @@ module _ (l : Scanning) (y : Bypass) where
         by true is later = by_any (list_any test p.files) refl later
         by false is later = later
 
-    pub file_first : file_hit l y test hit ≡ first_hit (λ c. file_hit (alone l c) y test hit) l.graph.crates
+    file_first : file_hit l y test hit ≡ first_hit (λ c. file_hit (alone l c) y test hit) l.graph.crates
     unfolding file_hit
     file_first = hits_all l.graph.crates
 

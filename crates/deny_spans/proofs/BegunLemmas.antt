@@ -81,13 +81,6 @@ module _ (told : Option Files) where
           subst (λ (o : Option Source). MayHave told (cond (is_some o) [] (m ∷ [])) old new) (sym e)
           (have_manifest m text old new (record { bytes = read.bytes; short = read.short }) (inr is))
 
-  -- the manifest of the workspace, where it is no crate's
-  pub have_lone : (g : Graph) (old new : List File) → home_in g ≡ None
-      → MayHave told (asked None purpose.Manifest (workspace_path g.root) ∷ []) old new
-      → MayHave told (lone_manifest g) old new
-  have_lone g old new none_there have = subst (λ (o : Option ℕ). MayHave told (cond (is_some o) []
-      (asked None purpose.Manifest (workspace_path g.root) ∷ [])) old new) (sym none_there) have
-
   -- the bytes of a manifest were kept at its path, which has several names here
   pub have_bytes : {T E V : Type 0} (r : Result T E) (m : Unread) (path name : List ℕ) (items : V → List ℕ)
       (read : Option V) (v : V) (bytes : List ℕ) (old new : List File) → path ≡ m.path → name ≡ path → read ≡ Some v
