@@ -1,6 +1,6 @@
--- The labels of clashes lie in the policy's text, which is the only file.
-use Rattle.std.proofs.Common.{◌≡◌, ℕ, Bool, true, false, List, [], ◌∷◌, Result, Ok, Err, refl, sym, ap, subst}
-use Rattle.std.specs.Prelude.{IfErr, codes, if◌then◌else◌, map, slice_get}
+-- The labels of clashes mark spans of the policy's text, which is the only file.
+use Rattle.std.proofs.Common.{◌≡◌, ℕ, Bool, true, false, List, [], ◌∷◌, Result, Ok, Err, refl, sym, subst}
+use Rattle.std.specs.Prelude.{All, IfErr, codes, if◌then◌else◌, map}
 use Rattle.std.specs.List.{AllByRecursion}
 use Rattle.std.specs.Result.{IsErrAnd}
 use Rattle.std.proofs.lemmas.List.Elements.{All-nil, All-cons, recursion_from_All}
@@ -9,17 +9,17 @@ use Rattle.deny_base.specs.declared.label.Label.{Label}
 use Rattle.deny_base.specs.declared.label.LabelStyle.TheVariants.{Primary, Secondary}
 use Rattle.deny_cfg.specs.Clashes.{clash_labels, label_of, one_label, clash_diag}
 use Rattle.deny_cfg.specs.LabelSpans.{reported_spans}
-use Rattle.deny_cfg.specs.PolicyText.{ReportsClashes, policy_file}
+use Rattle.deny_cfg.specs.PolicyText.{ReportsClashes}
 use Rattle.deny_cfg.specs.declared.clash.Clash.{Clash}
 use Rattle.deny_cfg.specs.declared.clash.ClashKind.{ClashKind}
 use Rattle.deny_cfg.specs.declared.clash.ClashKind.TheVariants as clash
 use Rattle.deny_cfg.proofs.Among.{lie_prefix, lie_rest}
 use Rattle.deny_cfg.proofs.LabelLaws.{Lie}
-use Rattle.deny_toml.specs.Spans.{IsSpan}
+use Rattle.deny_cfg.specs.Marks.{IsClashSpan}
 use Rattle.deny_spec.specs.Policy.{Policy}
 use Rattle.deny_gate.specs.Gating.{InputTexts}
 use Rattle.deny_gate.specs.private.Gating.{IsCauseBehind, IsPolicyCause}
-use Rattle.deny_gate.specs.Labels.{AreLabelledClashes, ArePlaced, IsLabelledCause, IsPlaced}
+use Rattle.deny_gate.specs.Labels.{AreLabelledClashes, IsClashLabel, IsLabelledCause}
 use Rattle.deny_gate.specs.Report.{policy_id}
 use Rattle.deny_gate.specs.declared.report.GateError.{GateError}
 use Rattle.deny_gate.specs.declared.report.GateError.TheVariants.{Config, Invalid, Metadata, Replacement}
@@ -51,36 +51,31 @@ unfolding clash_diag
 reported_in_file file c = in_file c.kind file c
 
 module _ (text : List ℕ) where
-  labels_placed : (labels : List Label) → AreIn policy_id labels → Lie text (map (λ (label : Label). label.span) labels)
-      → ArePlaced (policy_file text ∷ []) labels
-  labels_placed [] in_policy lie = All-nil (IsPlaced (policy_file text ∷ []))
+  labels_placed : (labels : List Label) → AreIn policy_id labels
+      → Lie (IsClashSpan text) (map (λ (label : Label). label.span) labels) → All (IsClashLabel text) labels
+  labels_placed [] in_policy lie = All-nil (IsClashLabel text)
   labels_placed (l ∷ ls) in_policy lie =
-      All-cons (IsPlaced (policy_file text ∷ [])) l ls
-      (record {
-        file = policy_file text;
-        there = ap (slice_get (policy_file text ∷ [])) in_policy.0;
-        span = lie.0;
-      })
+      All-cons (IsClashLabel text) l ls (record { in_policy = in_policy.0; span = lie.0 })
       (labels_placed ls in_policy.1 lie.1)
 
-  reported_placed : (cs : List Clash) → Lie text (reported_spans (map (clash_diag policy_id) cs))
+  reported_placed : (cs : List Clash) → Lie (IsClashSpan text) (reported_spans (map (clash_diag policy_id) cs))
       → AreLabelledClashes text (map (clash_diag policy_id) cs)
-  reported_placed [] lie = All-nil (λ (d : Diagnostic). ArePlaced (policy_file text ∷ []) d.labels)
+  reported_placed [] lie = All-nil (λ (d : Diagnostic). All (IsClashLabel text) d.labels)
   reported_placed (c ∷ cs) lie =
       let labels = (clash_diag policy_id c).labels in
       let first = map (λ (label : Label). label.span) labels in
       let others = reported_spans (map (clash_diag policy_id) cs) in
-      All-cons (λ (d : Diagnostic). ArePlaced (policy_file text ∷ []) d.labels) (clash_diag policy_id c)
+      All-cons (λ (d : Diagnostic). All (IsClashLabel text) d.labels) (clash_diag policy_id c)
       (map (clash_diag policy_id) cs)
-      (labels_placed labels (reported_in_file policy_id c) (lie_prefix text first others lie))
-      (reported_placed cs (lie_rest text first others lie))
+      (labels_placed labels (reported_in_file policy_id c) (lie_prefix (IsClashSpan text) first others lie))
+      (reported_placed cs (lie_rest (IsClashSpan text) first others lie))
 
   clashes_labelled : (clashes : List Diagnostic) → ReportsClashes text policy_id clashes
       → AreLabelledClashes text clashes
   clashes_labelled clashes reports =
-      let lie = recursion_from_All (IsSpan text) (reported_spans clashes) reports.located in
+      let lie = recursion_from_All (IsClashSpan text) (reported_spans clashes) reports.located in
       subst (λ (ds : List Diagnostic). AreLabelledClashes text ds) (sym reports.are.is)
-      (reported_placed reports.are.clashes (subst (λ (ds : List Diagnostic). Lie text (reported_spans ds))
+      (reported_placed reports.are.clashes (subst (λ (ds : List Diagnostic). Lie (IsClashSpan text) (reported_spans ds))
       reports.are.is lie))
 
   cause_labelled : (error : GateError) → IsPolicyCause text error → IsLabelledCause text error

@@ -1,6 +1,6 @@
 -- Laws with a line for each code: what its severity depends on, where it is an error, and what its labels mark.
-use Rattle.std.proofs.Common.{◌≡◌, ℕ, List, Option, refl, ◌∙◌, true, [], ◌∷◌, sym, inl, inr}
-use Rattle.std.specs.Option.{option_map_or, option_and_then}
+use Rattle.std.proofs.Common.{◌≡◌, ℕ, List, Option, refl, ◌∙◌, true, [], sym, inl, inr}
+use Rattle.std.specs.Option.{option_and_then}
 use Rattle.std.specs.Prelude.{codes}
 use Rattle.std.proofs.lemmas.Bool.{false≢true}
 use Rattle.deny_base_lists.proofs.Members.{Contains-from_flat_map}
@@ -14,7 +14,7 @@ use Rattle.deny_base.specs.declared.key.Key.{Key}
 use Rattle.deny_spec.specs.Bans.{wrapper_of}
 use Rattle.deny_spec.specs.Duplicates.{duplicate_level, is_denied_multiple}
 use Rattle.deny_spec.specs.Policy.{Ban, SpannedText}
-use Rattle.deny_spec.specs.DiagParts.{allow_labels, crate_at, ban_labels, entry_labels, primary, root_labels}
+use Rattle.deny_spec.specs.DiagParts.{allow_labels, crate_at, ban_labels, entry_labels, root_labels}
 use Rattle.deny_spec.specs.DiagParts.{wrapper_labels}
 use Rattle.deny_spec.specs.Wrappers.{same_span}
 use Rattle.deny_spec_report.specs.AllowList.{allowed_diag, not_allowed_diag}
@@ -25,7 +25,7 @@ use Rattle.deny_spec_report.specs.EachCode.{message_as, HoldsAs}
 use Rattle.deny_spec_report.specs.Facts.{Facts}
 use Rattle.deny_spec_report.specs.Features.{default_enabled_diag, default_level, default_severity, feature_banned_diag}
 use Rattle.deny_spec_report.specs.Features.{feature_not_allowed_diag, mismatched_diag, unknown_feature_diag}
-use Rattle.deny_spec_report.specs.Features.{feature_banned_keys_of, mismatched_keys_of, mismatch_labels}
+use Rattle.deny_spec_report.specs.Features.{feature_banned_keys_of, mismatched_keys_of}
 use Rattle.deny_spec_report.specs.PackageDiags.{bypassed_by_glob_diag, checksum_match_diag, checksum_mismatch_diag}
 use Rattle.deny_spec_report.specs.PackageDiags.{denied_by_extension_diag, detected_diag, features_enabled_diag}
 use Rattle.deny_spec_report.specs.PackageDiags.{path_bypassed_diag, script_denied_diag, script_diag}
@@ -49,9 +49,10 @@ use Rattle.deny_gate.specs.Report.{is_error}
 use Rattle.deny_gate.proofs.BuildEntries.{entry_known, older_known}
 use Rattle.deny_gate.proofs.Found.{of_found}
 use Rattle.deny_gate.proofs.LabelLaws.{AreSpans, LabelsOf, all_placed, at_build_entry, at_entry, built}
-use Rattle.deny_gate.proofs.LabelLaws.{by_extension_placed, by_glob_placed, features_placed, in_policy, mismatch_placed}
+use Rattle.deny_gate.proofs.LabelLaws.{by_extension_placed, by_glob_placed, features_placed, in_policy, list_labelled}
+use Rattle.deny_gate.proofs.LabelLaws.{mismatch_labelled, mismatch_placed}
 use Rattle.deny_gate.proofs.LabelLaws.{none, of_allowed, of_ban_entry, of_default, of_duplicate, script_placed}
-use Rattle.deny_gate.proofs.LabelLaws.{of_feature_banned, of_licence, of_list, of_mismatch, of_replaced, of_root}
+use Rattle.deny_gate.proofs.LabelLaws.{of_feature_banned, of_licence, of_replaced, of_root}
 use Rattle.deny_gate.proofs.LabelLaws.{of_skip, of_unknown_feature, of_unmatched_ignore, of_unmatched_root}
 use Rattle.deny_gate.proofs.LabelLaws.{of_unused_wrapper, of_wrapper, wrapper_in}
 use Rattle.deny_gate.proofs.ManifestLabels.{duplicate_placed, no_labels, unresolved_placed, unused_placed}
@@ -252,15 +253,8 @@ module _ (c : Circumstances) (facts : Facts) (text : List ℕ) (files : List Fil
       (of_unmatched_root c.policy c.files.policy c.graph key is)
   of_code code.UnusedWrapper key coded is =
       at_entry are key (codes "unmatched wrapper") (of_unused_wrapper c.policy c.files.policy c.graph key is)
-  of_code code.ExactFeaturesMismatch key coded is = in_policy are _ (
-      let at = crate_at c.graph key.place in
-      of_found (LabelsOf c) (λ e. option_map_or (mismatch_labels c.files.policy e) at [])
-      (λ e. same_span e.spec.span key.entry) c.policy.features (none c.policy c.files.policy)
-      (λ e written. of_mismatch c.policy c.files.policy e at written))
-  of_code code.FeatureNotExplicitlyAllowed key coded is = in_policy are _ (
-      of_found (LabelsOf c) (λ e. primary c.files.policy e.allow.span (codes "allowed features") ∷ [])
-      (λ e. same_span e.spec.span key.entry) c.policy.features (none c.policy c.files.policy)
-      (λ e written. of_list c.policy c.files.policy e written))
+  of_code code.ExactFeaturesMismatch key coded is = mismatch_labelled are key is
+  of_code code.FeatureNotExplicitlyAllowed key coded is = list_labelled are key is
   of_code code.FeatureBanned key coded is =
       at_entry are key (codes "feature denied here") (of_feature_banned c.policy c.files.policy c.graph key is)
   of_code code.UnknownFeature key coded (inl is) =
@@ -273,10 +267,10 @@ module _ (c : Circumstances) (facts : Facts) (text : List ℕ) (files : List Fil
       of_replaced c.policy c.files.policy c.policy.replacing c.graph (said_by c.table) key)
   of_code code.UnmatchedReplacementIgnore key coded is = in_policy are _ (
       of_unmatched_ignore c.policy c.files.policy c.policy.replacing key refl)
-  of_code code.Wildcard key coded is = wildcard_placed files c.view are.of_manifests c.policy c.graph key
-  of_code code.UnresolvedWorkspaceDependency key coded is = unresolved_placed files c.view are.of_manifests c.graph key
-  of_code code.WorkspaceDuplicate key coded is = duplicate_placed files c.view are.of_manifests c.policy c.graph key
-  of_code code.UnusedWorkspaceDependency key coded is = unused_placed files c.view are.of_manifests c.policy key
+  of_code code.Wildcard key coded is = wildcard_placed files c.view are.first_number are.past are.of_manifests c.policy c.graph key
+  of_code code.UnresolvedWorkspaceDependency key coded is = unresolved_placed files c.view are.first_number are.past are.of_manifests c.graph key
+  of_code code.WorkspaceDuplicate key coded is = duplicate_placed files c.view are.first_number are.past are.of_manifests c.policy c.graph key
+  of_code code.UnusedWorkspaceDependency key coded is = unused_placed files c.view are.first_number are.past are.of_manifests c.policy key
   of_code code.BuildScriptNotAllowed key coded is = no_labels files
   of_code code.PathBypassed key coded is =
       at_build_entry are key (codes "allowed path") (entry_known c facts code.PathBypassed key is coded refl)

@@ -1,5 +1,5 @@
 -- The findings of packs by their keys, and the hits: those of the bans check, and then those of the licence check.
-use Rattle.std.proofs.Common.{◌≡◌, ◌++◌, ℕ, Bool, false, List, [], ◌∷◌, Option, None, Some, refl, sym, ap, subst, ◌∙◌}
+use Rattle.std.proofs.Common.{◌≡◌, ◌++◌, ℕ, Bool, false, List, [], ◌∷◌, Option, None, Some, length, refl, sym, ap, subst, ◌∙◌}
 use Rattle.std.specs.Prelude.{filter, is_some, map}
 use Rattle.std.specs.List.{flat_map}
 use Rattle.std.specs.List.Sorted.{IsStrictlySortedBy}
@@ -265,7 +265,7 @@ seen_report before after said g extras first new checked report of in_files grap
           (sym unread) of.packages_seen;
       causes = subst (λ (us : List Unread). HaveCauses before after building extras.home g (of_packages us) of.packages)
           (sym unread) of.causes;
-      spans = subst (λ (fs : List File). ViewLies fs of.view) (sym in_files) of.spans;
+      spans = subst (λ (fs : List File). ViewLies (length first) fs of.view) (sym in_files) of.spans;
       lines = of.lines;
       is_report = record {
         graph = graph;

@@ -295,6 +295,7 @@ licences_part counts g (Some config) lawful =
 -- the spans of entries of one kind are among those of all
 pub record Parts (cfg : ValidConfig) : Type 0 where
   pub bans : AreApart (flat_map (with_spec wrapper_spans) cfg.denied)
+  pub features : AreApart (flat_map (feature_spans_by no_span) cfg.features)
   pub skips : AreApart (flat_map (with_spec no_span) cfg.skipped)
   pub trees : AreApart (flat_map (with_spec no_span) cfg.tree_skipped)
   pub std : AreApart (of_some (std_spans_by no_span) cfg.std_replacements)
@@ -313,6 +314,7 @@ parts_of cfg lawful =
     let eighth = apart_right (flat_map (with_spec no_span) cfg.tree_skipped) _ seventh in record {
       bans = apart_left (flat_map (with_spec wrapper_spans) cfg.denied)
           (flat_map spec_span cfg.denied_multiple_versions) (apart_left _ _ lawful);
+      features = apart_left (flat_map (feature_spans_by no_span) cfg.features) _ fifth;
       skips = apart_left (flat_map (with_spec no_span) cfg.skipped) _ sixth;
       trees = apart_left (flat_map (with_spec no_span) cfg.tree_skipped) _ seventh;
       std = apart_left (of_some (std_spans_by no_span) cfg.std_replacements) _ eighth;

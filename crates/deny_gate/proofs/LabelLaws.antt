@@ -1,6 +1,7 @@
 -- The labels of findings mark spans of the policy, of the lock text and of manifests.
-use Rattle.std.proofs.Common.{◌≡◌, ◌++◌, ℕ, Bool, true, false, List, [], ◌∷◌, All, Contains, Option, None, Some, refl}
-use Rattle.std.proofs.Common.{sym, ap, subst, inl, inr}
+use Rattle.std.proofs.Common.{◌≡◌, ◌≢◌, ◌<◌, ◌==◌, ◌&&◌, ◌++◌, ◌∙◌, ℕ, Bool, true, false, List, [], ◌∷◌, All, Contains}
+use Rattle.std.proofs.Common.{Option, None, Some, arith, length, refl, sym, ap, subst, inl, inr}
+use Rattle.std.proofs.lemmas.Bool.{and_parts}
 use Rattle.std.specs.Prelude.{codes, filter, if◌then◌else◌, map, not, slice_get}
 use Rattle.std.specs.Option.{option_and_then, option_map_or}
 use Rattle.std.proofs.lemmas.Option.{none-some}
@@ -19,12 +20,15 @@ use Rattle.deny_base.specs.declared.span.Span.{Span}
 use Rattle.deny_base.specs.declared.span.Spanned.{Spanned}
 use Rattle.deny_base_lists.proofs.Members.{Contains-by_cases, Contains-filter, Contains-first, Contains-from_flat_map}
 use Rattle.deny_base_lists.proofs.Members.{Contains-rest, contains_map, filtered, from_contains_map, no_member}
+use Rattle.deny_base_lists.proofs.Members.{passes_filter}
 use Rattle.deny_base_lists.proofs.Finding.{found_member}
 use Rattle.deny_spdx.specs.declared.requirement.Requirement.{Requirement}
 use Rattle.deny_cfg_build.specs.Builtin.{builtin_file}
 use Rattle.deny_spec.specs.Building.{Building, Bypass, ScriptGlob}
 use Rattle.deny_spec.specs.declared.package.PackageFile.{PackageFile}
+use Rattle.deny_cfg.specs.Marks.{IsPolicySpan}
 use Rattle.deny_cfg.specs.PolicyText.{policy_file}
+use Rattle.deny_spec.proofs.SpanLemmas.{same-span}
 use Rattle.deny_spans.specs.Spans.{ViewLies}
 use Rattle.deny_spans.specs.Seen.{lock_file}
 use Rattle.deny_spec.specs.Bans.{wrapper_of}
@@ -48,7 +52,9 @@ use Rattle.deny_spec_report.specs.Facts.{Facts}
 use Rattle.deny_spec_report.specs.Features.{banned_features, default_enabled_keys, default_enabled_keys_at}
 use Rattle.deny_spec_report.specs.Features.{default_enabled_keys_of, default_level, feature_banned_keys}
 use Rattle.deny_spec_report.specs.Features.{feature_banned_keys_at, feature_banned_keys_of, has_feature}
-use Rattle.deny_spec_report.specs.Features.{is_default_reported}
+use Rattle.deny_spec_report.specs.Features.{IsFeatureNotAllowed, feature_not_allowed_diag, is_default_reported}
+use Rattle.deny_spec_report.specs.Features.{is_mismatch_reported, is_mismatched, mismatched_diag, mismatched_keys}
+use Rattle.deny_spec_report.specs.Features.{mismatched_keys_of, not_allowed_feature_key}
 use Rattle.deny_spec_report.specs.Features.{is_enabled, mismatch_labels, missing, matched_by, reports_unknown}
 use Rattle.deny_spec_report.specs.Features.{unknown_feature_keys, unknown_feature_keys_at, unknown_feature_keys_of}
 use Rattle.deny_spec_report.specs.Features.{unknown_features}
@@ -76,7 +82,7 @@ use Rattle.deny_gate.specs.private.Labels.{span_of}
 use Rattle.deny_gate.specs.private.Labels.{spans_of}
 use Rattle.deny_gate.specs.Report.{lock_id, policy_id}
 use Rattle.deny_gate.proofs.BuildEntries.{feature_there, glob_there, of_bypass, of_extension}
-use Rattle.deny_gate.proofs.Found.{of_found}
+use Rattle.deny_gate.proofs.Found.{of_found, of_passing}
 use Rattle.deny_gate.proofs.LockLabels.{lock_placed}
 use Rattle.deny_gate.proofs.ManifestLabels.{no_labels}
 use Rattle.deny_gate.proofs.Placed.{ArePlaced as AtPlaces}
@@ -202,21 +208,39 @@ module _ (p : Policy) (file : ℕ) where
   pub of_mismatch : (e : FeatureEntry) (o : Option Crate) → Contains p.features e
       → AreOf (spans_of p) file (option_map_or (mismatch_labels file e) o [])
   unfolding missing
-  of_mismatch e None written = none
-  of_mismatch e (Some c) written =
+  of_mismatch e None written exact = none
+  of_mismatch e (Some c) written exact =
       let absent : SpannedText → Bool = λ w. not (is_enabled c w.value) in
       one_more (primary file e.exact.span (codes "exact enabled here"))
       (map (λ (w : SpannedText). primary file w.span (codes "allowed feature not present"))
       (filter absent e.allow.value))
       refl
-      (feature_known p e e.exact.span written (feature_flag e))
+      (feature_known p e e.exact.span written (feature_flag e exact))
       (of_words (codes "allowed feature not present") (filter absent e.allow.value)
       (λ w is. feature_known p e w.span written (feature_allowed e w (filtered absent e.allow.value w is))))
 
-  pub of_list : (e : FeatureEntry) → Contains p.features e
+  pub of_list : (e : FeatureEntry) → Contains p.features e → (length e.allow.value == 0) ≡ false
       → AreOf (spans_of p) file (primary file e.allow.span (codes "allowed features") ∷ [])
-  of_list e written = one_more (primary file e.allow.span (codes "allowed features")) [] refl
-      (feature_known p e e.allow.span written (feature_list e)) none
+  of_list e written some = one_more (primary file e.allow.span (codes "allowed features")) [] refl
+      (feature_known p e e.allow.span written (feature_list e some)) none
+
+  -- the entry of a mismatch is exact
+  pub of_exact : (g : Graph) (key : Key) → Contains (mismatched_keys p g) key
+      → (e : FeatureEntry) × Contains p.features e × (e.exact.value ≡ true) × (e.spec.span ≡ key.entry)
+  unfolding mismatched_keys_of is_mismatch_reported key_of
+  of_exact g key is =
+      let of = Contains-from_flat_map (mismatched_keys_of p g) p.features key is in
+      let e = of.from in
+      let at = from_contains_map (λ (c : Crate). crate_key code.ExactFeaturesMismatch c.place e.spec.span)
+      (filter (is_mismatch_reported p g e) g.crates) key of.of in
+      let passes = passes_filter (is_mismatch_reported p g e) g.crates at.0 at.1 in
+      let both = and_parts (matches e.spec at.0) (e.exact.value && is_mismatched p g e at.0) passes in
+      (
+        e,
+        of.member,
+        (and_parts e.exact.value (is_mismatched p g e at.0) both.1).0,
+        ap (λ (k : Key). k.entry) at.2,
+      )
 
   -- ---- the entries that are named without being looked up
 
@@ -428,19 +452,24 @@ of_licence license.LicenseExceptionNotEncountered licensing g file key is =
 pub record HasGlobsFile (c : Circumstances) (files : List File) : Type 0 where
   pub number : ℕ
   pub is : c.files.globs ≡ Some number
+  pub other : number ≢ policy_id
   pub there : slice_get files number ≡ Some builtin_file
 
 -- The files are the policy's text, the built-in globs where there are some, the lock text and others: the spans of
 -- what the policy says lie in the first, those of built-in globs in theirs, the lines of the graph's crates in the
--- lock text, and what was seen of manifests in theirs.
+-- lock text, and what was seen of manifests in theirs, which come behind. An entry of `features` is known by its span.
 pub record AreSpans (c : Circumstances) (text : List ℕ) (files : List File) : Type 0 where
   pub first : c.files.policy ≡ policy_id
   pub second : c.files.lock ≡ Some (lock_id c.files.globs)
-  pub of_policy : All (IsSpan text) (spans_of c.policy)
-  pub of_licences : All (IsSpan text) (licence_spans c.licensing)
-  pub of_builds : All (IsSpan text) (build_spans c.building)
+  pub of_policy : All (IsPolicySpan text) (spans_of c.policy)
+  pub of_licences : All (IsPolicySpan text) (licence_spans c.licensing)
+  pub of_builds : All (IsPolicySpan text) (build_spans c.building)
   pub of_globs : All (IsSpan builtin_file.source) (built_in_spans c.building)
-  pub of_manifests : ViewLies files c.view
+  pub one_feature : (d e : FeatureEntry) → Contains c.policy.features d → Contains c.policy.features e
+      → d.spec.span ≡ e.spec.span → d ≡ e
+  pub first_number : ℕ
+  pub past : policy_id < first_number
+  pub of_manifests : ViewLies first_number files c.view
   pub policy_there : slice_get files policy_id ≡ Some (policy_file text)
   pub globs_there : (b : Building) → c.building ≡ Some b → (e : ScriptGlob) → Contains (built_in_globs b) e
       → HasGlobsFile c files
@@ -448,18 +477,28 @@ pub record AreSpans (c : Circumstances) (text : List ℕ) (files : List File) : 
   pub lines : AreLockLines c.graph
   pub places : AtPlaces c.graph c.graph.crates
 
+number_is : (globs : Option ℕ) (number : ℕ) → globs ≡ Some number → option_map_or (λ n. n) globs 0 ≡ number
+number_is globs number is = ap (λ (o : Option ℕ). option_map_or (λ n. n) o 0) is
+
+lock_behind : (globs : Option ℕ) → lock_id globs ≢ policy_id
+lock_behind None same = omega (arith, same)
+lock_behind (Some n) same = omega (arith, same)
+
 -- where spans lie in the policy's text, so do the labels that mark them in its file
 placed_in : (files : List File) (spans : List Span) (text : List ℕ)
-    → slice_get files policy_id ≡ Some (policy_file text) → All (IsSpan text) spans → (label : Label)
+    → slice_get files policy_id ≡ Some (policy_file text) → All (IsPolicySpan text) spans → (label : Label)
     → IsOf spans policy_id label → IsPlaced files label
-placed_in files spans text there lie label of = record {
-  file = policy_file text;
-  there = subst (λ (n : ℕ). slice_get files n ≡ Some (policy_file text)) (sym of.in_file) there;
-  span = All-contains (IsSpan text) spans label.span lie of.known;
-}
+placed_in files spans text there lie label of =
+    let mark = All-contains (IsPolicySpan text) spans label.span lie of.known in
+    record {
+      file = policy_file text;
+      there = subst (λ (n : ℕ). slice_get files n ≡ Some (policy_file text)) (sym of.in_file) there;
+      span = mark.located;
+      marked = λ in_policy. mark.marked;
+    }
 
 pub all_placed : (files : List File) (spans : List Span) (text : List ℕ) (file : ℕ) (labels : List Label)
-    → slice_get files policy_id ≡ Some (policy_file text) → file ≡ policy_id → All (IsSpan text) spans
+    → slice_get files policy_id ≡ Some (policy_file text) → file ≡ policy_id → All (IsPolicySpan text) spans
     → AreOf spans file labels → ArePlaced files labels
 all_placed files spans text file labels there first lie are =
     All-weaker (IsOf spans policy_id) (IsPlaced files) (placed_in files spans text there lie) labels
@@ -474,6 +513,35 @@ module _ {c : Circumstances} {text : List ℕ} {files : List File} (are : AreSpa
   in_policy labels of =
       all_placed files (spans_of c.policy) text c.files.policy labels are.policy_there are.first are.of_policy of
 
+  -- the entry of `features` that a key shows is the one that it is made of
+  shown_feature : (d e : FeatureEntry) (key : Key) → Contains c.policy.features d → Contains c.policy.features e
+      → same_span d.spec.span key.entry ≡ true → e.spec.span ≡ key.entry → e ≡ d
+  shown_feature d e key at_d at_e shown made =
+      are.one_feature e d at_e at_d (made ∙ sym (same-span d.spec.span key.entry shown))
+
+  pub mismatch_labelled : (key : Key) → Contains (mismatched_keys c.policy c.graph) key
+      → ArePlaced files (mismatched_diag c.policy c.graph c.files.policy key).labels
+  unfolding mismatched_diag
+  mismatch_labelled key is =
+      let made = of_exact c.policy c.files.policy c.graph key is in
+      let at = crate_at c.graph key.place in
+      in_policy _ (of_passing (LabelsOf c) (λ e. option_map_or (mismatch_labels c.files.policy e) at [])
+      (λ e. same_span e.spec.span key.entry) c.policy.features (none c.policy c.files.policy)
+      (λ d written shown. of_mismatch c.policy c.files.policy d at written
+      (subst (λ (e : FeatureEntry). e.exact.value ≡ true)
+      (shown_feature d made.0 key written made.1 shown made.3) made.2)))
+
+  pub list_labelled : (key : Key) → IsFeatureNotAllowed c.policy c.graph key
+      → ArePlaced files (feature_not_allowed_diag c.policy c.graph c.files.policy key).labels
+  unfolding feature_not_allowed_diag not_allowed_feature_key key_of
+  list_labelled key is =
+      in_policy _ (of_passing (LabelsOf c) (λ e. primary c.files.policy e.allow.span (codes "allowed features") ∷ [])
+      (λ e. same_span e.spec.span key.entry) c.policy.features (none c.policy c.files.policy)
+      (λ d written shown. of_list c.policy c.files.policy d written
+      (subst (λ (e : FeatureEntry). (length e.allow.value == 0) ≡ false)
+      (shown_feature d is.entry key written is.written shown (sym (ap (λ (k : Key). k.entry) is.is)))
+      is.is_not_allowed.some)))
+
   unlabelled : ArePlaced files []
   unlabelled = no_labels files
 
@@ -481,7 +549,7 @@ module _ {c : Circumstances} {text : List ℕ} {files : List File} (are : AreSpa
       → ArePlaced files (duplicate_diag c.policy c.graph c.files.lock key).labels
   of_duplicate facts key is =
       subst (λ (lock : Option ℕ). ArePlaced files (duplicate_diag c.policy c.graph lock key).labels) (sym are.second)
-      (lock_placed c.graph are.lines are.places files (lock_id c.files.globs) (lock_file c.graph.root c.graph)
+      (lock_placed c.graph are.lines are.places files (lock_id c.files.globs) (lock_behind c.files.globs) (lock_file c.graph.root c.graph)
       are.lock_there refl c.policy facts.chains key is)
 
   -- a label at the entry of a key lies in its file
@@ -552,6 +620,7 @@ module _ {c : Circumstances} {text : List ℕ} {files : List File} (are : AreSpa
           span = All-contains (IsSpan builtin_file.source) (built_in_spans c.building) e.span are.of_globs
               (subst (λ (o : Option Building). Contains (built_in_spans o) e.span) (sym said)
               (contains_map (λ (g : ScriptGlob). g.span) (built_in_globs b) e mine));
+          marked = λ in_policy. absurd (of.other (sym (number_is c.files.globs of.number of.is) ∙ in_policy));
         }
     extension_by e false is written = placed_in files (build_spans c.building) text are.policy_there are.of_builds
         (secondary c.files.policy e.span [])

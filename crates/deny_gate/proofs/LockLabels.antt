@@ -1,6 +1,6 @@
 -- The label of a duplicate lies in the lock text: it begins with the line of its first crate and ends with that of its
 -- last.
-use Rattle.std.proofs.Common.{◌≡◌, ◌⊎◌, ◌≤◌, ◌∙◌, ℕ, List, [], ◌∷◌, Contains, Option, None, Some, ap, refl, sym, subst}
+use Rattle.std.proofs.Common.{◌≡◌, ◌≢◌, ◌⊎◌, ◌≤◌, ◌∙◌, ℕ, List, [], ◌∷◌, Contains, Option, None, Some, ap, refl, sym, subst}
 use Rattle.std.proofs.Common.{arith, inl, inr}
 use Rattle.std.specs.Prelude.{codes, map, option_and_then, slice_get}
 use Rattle.std.specs.Cmp.Lexicographic.{nat_list_cmp_total, slice_cmp}
@@ -30,6 +30,7 @@ use Rattle.deny_spans.specs.declared.krate_spans.KrateSpans.{KrateSpans}
 use Rattle.deny_toml.specs.Spans.{IsSpan}
 use Rattle.deny_spec_report.specs.Duplicates.{duplicate_diag, lock_label, lock_labels, lock_lines}
 use Rattle.deny_gate.specs.Labels.{ArePlaced}
+use Rattle.deny_gate.specs.Report.{policy_id}
 use Rattle.deny_gate.specs.private.Labels.{AreLockLines}
 use Rattle.deny_gate.proofs.Beside.{listed_from}
 use Rattle.deny_gate.proofs.ManifestLabels.{first_label, no_labels}
@@ -122,7 +123,7 @@ module _ (g : Graph) (lines : AreLockLines g) where
 
     -- ---- the label
 
-    module _ (files : List File) (lock : ℕ) (file : File) (there : slice_get files lock ≡ Some file)
+    module _ (files : List File) (lock : ℕ) (apart : lock ≢ policy_id) (file : File) (there : slice_get files lock ≡ Some file)
         (source : file.source ≡ lock_text g.crates) where
       label_placed : (first other : Option Crate) (c d : Crate) → first ≡ Some c → other ≡ Some d
           → Contains g.crates c → Contains g.crates d → IsUpTo c d → ArePlaced files (lock_label g lock first other)
@@ -130,7 +131,7 @@ module _ (g : Graph) (lines : AreLockLines g) where
       label_placed None other c d first_is other_is one last up = absurd (cc first_is)
       label_placed (Some a) None c d first_is other_is one last up = absurd (cc other_is)
       label_placed (Some a) (Some b) c d first_is other_is one last up =
-          first_label files lock file there (primary lock (lock_lines g a b) (codes "lock entries")) [] refl
+          first_label files lock apart file there (primary lock (lock_lines g a b) (codes "lock entries")) [] refl
           (subst₃ (λ (text : List ℕ) (e f : Crate). IsSpan text (lock_lines g e f)) (sym source)
           (same_Some c a (sym first_is)) (same_Some d b (sym other_is)) (lines_are c d one last up)) (no_labels files)
 

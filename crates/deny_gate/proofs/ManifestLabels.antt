@@ -1,6 +1,6 @@
 -- The labels of findings on manifests lie in the files of the manifests.
-use Rattle.std.proofs.Common.{◌≡◌, ◌∙◌, ℕ, Bool, true, false, List, [], ◌∷◌, ◌++◌, Contains, Option, None, Some}
-use Rattle.std.proofs.Common.{refl, subst, sym}
+use Rattle.std.proofs.Common.{◌≡◌, ◌≢◌, ◌≤◌, ◌<◌, ◌∙◌, ℕ, Bool, true, false, List, [], ◌∷◌, ◌++◌, Contains, Option, None, Some}
+use Rattle.std.proofs.Common.{arith, refl, subst, sym}
 use Rattle.std.specs.Prelude.{IfSome, codes, filter, if◌then◌else◌, option_and_then, option_map, slice_get}
 use Rattle.std.specs.Option.{option_map_or}
 use Rattle.std.proofs.lemmas.List.Elements.{All-nil, All-cons, All-append}
@@ -34,6 +34,7 @@ use Rattle.deny_spec_report.specs.Wildcards.{wildcard_labels_in, wildcard_labels
 use Rattle.deny_spec_report.specs.Wildcards.{workspace_label, workspace_label_at}
 use Rattle.deny_spans.specs.Spans.{DeclaredLies, EntryLies, ManifestLies, SharedLies, ViewLies}
 use Rattle.deny_gate.specs.Labels.{ArePlaced, IsPlaced}
+use Rattle.deny_gate.specs.Report.{policy_id}
 use Rattle.deny_gate.proofs.Found.{all_flat, flat_there, of_found, of_option}
 
 -- the span of an optional value, or else another
@@ -53,12 +54,13 @@ module _ (files : List File) where
 
   -- ---- labels at spans of one file
 
-  module _ (number : ℕ) (file : File) (there : slice_get files number ≡ Some file) where
+  module _ (number : ℕ) (other : number ≢ policy_id) (file : File) (there : slice_get files number ≡ Some file) where
     placed_at : (label : Label) → label.file_id ≡ number → IsSpan file.source label.span → IsPlaced files label
     placed_at label at lies = record {
       file = file;
       there = subst (λ (n : ℕ). slice_get files n ≡ Some file) (sym at) there;
       span = lies;
+      marked = λ in_policy. absurd (other (sym at ∙ in_policy));
     }
 
     pub first_label : (label : Label) (labels : List Label) → label.file_id ≡ number → IsSpan file.source label.span
@@ -82,17 +84,21 @@ module _ (files : List File) where
         (All-append (IsPlaced files) patched renamed (note_placed patched_note e.patched lies.patched)
         (note_placed message (entry_rename e) (span_in file.source e.rename lies.rename)))
 
-  module _ (view : View) (lies : ViewLies files view) where
+  module _ (view : View) (first : ℕ) (past : policy_id < first) (lies : ViewLies first files view) where
+    -- files behind the first ones are not the policy's
+    not_policys : (number : ℕ) → first ≤ number → number ≢ policy_id
+    not_policys number behind same = omega (arith, past, behind, same)
+
     -- ---- what the view holds
 
-    manifest_lies : (c : Crate) (m : Manifest) → manifest_of view c ≡ Some m → ManifestLies files m
+    manifest_lies : (c : Crate) (m : Manifest) → manifest_of view c ≡ Some m → ManifestLies first files m
     manifest_lies c m is = lies.manifests m (flat_there view.manifests c.place m is)
 
-    shared_lies : (place : ℕ) (e : WorkspaceEntry) → shared_at view place ≡ Some e → SharedLies files view.workspace e
+    shared_lies : (place : ℕ) (e : WorkspaceEntry) → shared_at view place ≡ Some e → SharedLies first files view.workspace e
     shared_lies place e is = lies.shared e (flat_there view.shared place e is)
 
     found_manifest : (o : Option Crate) (m : Manifest) → option_and_then (manifest_of view) o ≡ Some m
-        → ManifestLies files m
+        → ManifestLies first files m
     found_manifest None m is = absurd (cc is)
     found_manifest (Some c) m is = manifest_lies c m is
 
@@ -101,21 +107,24 @@ module _ (files : List File) where
     of_flag false labels placed = no_labels
 
     -- labels at an entry lie in the file of the workspace's manifest
-    in_workspace : (e : WorkspaceEntry) (labels : ℕ → List Label) → SharedLies files view.workspace e
-        → ((number : ℕ) (file : File) → slice_get files number ≡ Some file → EntryLies file.source e
+    in_workspace : (e : WorkspaceEntry) (labels : ℕ → List Label) → SharedLies first files view.workspace e
+        → ((number : ℕ) → number ≢ policy_id → (file : File) → slice_get files number ≡ Some file
+        → EntryLies file.source e
         → ArePlaced files (labels number)) → ArePlaced files (option_map_or labels view.workspace [])
     in_workspace e labels shared placed = of_option (ArePlaced files) labels view.workspace no_labels
-        (λ number is. placed number shared.file
+        (λ number is. placed number
+        (subst (λ (n : ℕ). n ≢ policy_id) (same_Some shared.number number (sym shared.in_file ∙ is))
+        (not_policys shared.number shared.behind)) shared.file
         (subst (λ (n : ℕ). slice_get files n ≡ Some shared.file)
         (same_Some shared.number number (sym shared.in_file ∙ is)) shared.is) shared.entry)
 
     -- ---- wildcards
 
-    workspace_placed : (e : WorkspaceEntry) → SharedLies files view.workspace e
+    workspace_placed : (e : WorkspaceEntry) → SharedLies first files view.workspace e
         → ArePlaced files (option_map_or (λ file. workspace_label file e) view.workspace [])
     workspace_placed e shared = in_workspace e (λ number. workspace_label number e) shared
-        (λ number file there entry.
-        first_label number file there (secondary number (shared_span e) (codes "workspace dependency")) [] refl
+        (λ number other file there entry.
+        first_label number other file there (secondary number (shared_span e) (codes "workspace dependency")) [] refl
         (or_span file.source e.version e.value entry.version entry.value) no_labels)
 
     shared_placed : (d : Declared) → ArePlaced files (shared_labels view d)
@@ -125,12 +134,12 @@ module _ (files : List File) where
         (of_option (ArePlaced files) (workspace_label_at view d.child) (shared_at view d.child) no_labels
         (λ e is. workspace_placed e (shared_lies d.child e is)))
 
-    of_wildcard : (m : Manifest) (lie : ManifestLies files m) (d : Declared) → Contains m.deps d
+    of_wildcard : (m : Manifest) (lie : ManifestLies first files m) (d : Declared) → Contains m.deps d
         → ArePlaced files (labels_of_wildcard view m.file d)
     unfolding labels_of_wildcard wildcard_label
     of_wildcard m lie d written =
         let at = lie.deps d written in
-        first_label m.file lie.file lie.is (primary m.file (version_span d) (codes "wildcard dependency"))
+        first_label m.file (not_policys m.file lie.behind) lie.file lie.is (primary m.file (version_span d) (codes "wildcard dependency"))
         (shared_labels view d) refl (or_span lie.file.source d.version_req d.value at.version_req at.value)
         (shared_placed d)
 
@@ -148,18 +157,18 @@ module _ (files : List File) where
 
     -- ---- what the workspace does not share
 
-    flag_placed : (number : ℕ) (file : File) → slice_get files number ≡ Some file → (d : Declared)
+    flag_placed : (number : ℕ) → number ≢ policy_id → (file : File) → slice_get files number ≡ Some file → (d : Declared)
         → DeclaredLies file.source d → ArePlaced files (unresolved_labels_of_dep number d)
     unfolding unresolved_labels_of_dep
-    flag_placed number file there d lie =
+    flag_placed number other file there d lie =
         let value = secondary number d.value [] in
         let flag : Spanned Bool → List Label =
         λ at. primary number at.span (codes "usage of workspace dependency") ∷ [] in
         All-append (IsPlaced files) (option_map_or flag d.workspace []) (value ∷ [])
         (of_option (ArePlaced files) flag d.workspace no_labels
-        (λ at is. first_label number file there (primary number at.span (codes "usage of workspace dependency")) [] refl
+        (λ at is. first_label number other file there (primary number at.span (codes "usage of workspace dependency")) [] refl
         (subst (λ (o : Option (Spanned Bool)). IfSome o (λ s. IsSpan file.source s.span)) is lie.workspace) no_labels))
-        (first_label number file there value [] refl lie.value no_labels)
+        (first_label number other file there value [] refl lie.value no_labels)
 
     pub unresolved_placed : (g : Graph) (key : Key) → ArePlaced files (unresolved_diag g view key).labels
     unfolding unresolved_diag unresolved_labels unresolved_labels_in
@@ -168,21 +177,21 @@ module _ (files : List File) where
         (λ m is. of_found (ArePlaced files) (unresolved_labels_of_dep m.file) (λ d. same_span d.key key.entry) m.deps
         no_labels (λ d written.
         let lie = found_manifest (crate_at g key.place) m is in
-        flag_placed m.file lie.file lie.is d (lie.deps d written)))
+        flag_placed m.file (not_policys m.file lie.behind) lie.file lie.is d (lie.deps d written)))
 
     -- ---- what members declare
 
-    declared_placed : (m : Manifest) (lie : ManifestLies files m) (d : Declared) → Contains m.deps d
+    declared_placed : (m : Manifest) (lie : ManifestLies first files m) (d : Declared) → Contains m.deps d
         → ArePlaced files (use_labels (use_in m d))
     unfolding use_labels use_in
     declared_placed m lie d written =
         let at = lie.deps d written in
-        first_label m.file lie.file lie.is (primary m.file d.key [])
+        first_label m.file (not_policys m.file lie.behind) lie.file lie.is (primary m.file d.key [])
         (note_at m.file renamed_note (declared_rename d)) refl at.key
-        (note_placed m.file lie.file lie.is renamed_note (declared_rename d)
+        (note_placed m.file (not_policys m.file lie.behind) lie.file lie.is renamed_note (declared_rename d)
         (span_in lie.file.source d.rename at.rename))
 
-    of_manifest : (s : Sharing) (o : Option Manifest) → ((m : Manifest) → o ≡ Some m → ManifestLies files m)
+    of_manifest : (s : Sharing) (o : Option Manifest) → ((m : Manifest) → o ≡ Some m → ManifestLies first files m)
         → (used : Use) → Contains (option_map_or (uses_in s) o []) used → ArePlaced files (use_labels used)
     unfolding uses_in
     of_manifest s None lie used is = absurd (no_member used is)
@@ -206,10 +215,10 @@ module _ (files : List File) where
         use_placed s g used (filtered (is_use_of place) (all_uses s g view) used
         (filtered is_unshared (uses_of s g view place) used is)))
 
-    entry_there : (e : WorkspaceEntry) → SharedLies files view.workspace e → ArePlaced files (entry_labels_in view e)
+    entry_there : (e : WorkspaceEntry) → SharedLies first files view.workspace e → ArePlaced files (entry_labels_in view e)
     unfolding entry_labels_in entry_labels
-    entry_there e shared = in_workspace e (λ number. entry_labels number e) shared (λ number file there entry.
-        entry_placed number file there (secondary number e.key (entry_message e)) renamed_entry_note e refl refl
+    entry_there e shared = in_workspace e (λ number. entry_labels number e) shared (λ number other file there entry.
+        entry_placed number other file there (secondary number e.key (entry_message e)) renamed_entry_note e refl refl
         entry)
 
     duplicate_by : (g : Graph) (key : Key) (o : Option Sharing)
@@ -236,8 +245,8 @@ module _ (files : List File) where
     unused_by key None = no_labels
     unused_by key (Some s) =
         of_found (ArePlaced files) (unused_labels_in view) (λ e. same_span e.key key.entry) view.unused no_labels
-        (λ e at. in_workspace e (λ number. unused_labels number e) (lies.unused e at) (λ number file there entry.
-        entry_placed number file there (primary number e.key (unused_message e)) renamed_note e refl refl entry))
+        (λ e at. in_workspace e (λ number. unused_labels number e) (lies.unused e at) (λ number other file there entry.
+        entry_placed number other file there (primary number e.key (unused_message e)) renamed_note e refl refl entry))
 
     pub unused_placed : (p : Policy) (key : Key) → ArePlaced files (unused_entry_diag p view key).labels
     unfolding unused_entry_diag

@@ -1,5 +1,5 @@
 -- The spans of the entries of a policy are among its spans.
-use Rattle.std.proofs.Common.{◌≡◌, ◌∷◌, Contains, List, Option, Some, subst, sym}
+use Rattle.std.proofs.Common.{◌≡◌, ◌==◌, [], Bool, false, true, Contains, List, Option, Some, length, not, subst, sym}
 use Rattle.std.specs.Prelude.{◌++◌, map}
 use Rattle.std.specs.List.{flat_map}
 use Rattle.std.proofs.lemmas.List.Elements.{Contains-append_left, Contains-append_right}
@@ -7,6 +7,7 @@ use Rattle.deny_base.specs.declared.span.Span.{Span}
 use Rattle.deny_base_lists.proofs.Members.{Contains-first, Contains-flat_map, Contains-rest, contains_map}
 use Rattle.deny_spec.specs.Policy.{AllowEntry, Ban, Entry, FeatureEntry, Policy, Replacing, Root, SpannedText}
 use Rattle.deny_gate.specs.private.Labels.{allow_spans, ban_spans, entry_spans, features_spans, ignore_spans}
+use Rattle.deny_gate.specs.private.Labels.{list_and_flag, span_if}
 use Rattle.deny_gate.specs.private.Labels.{level_spans}
 use Rattle.deny_gate.specs.private.Labels.{span_of}
 use Rattle.deny_gate.specs.private.Labels.{spans_of, root_spans}
@@ -85,20 +86,30 @@ level_known p span is =
 abbrev named : FeatureEntry → List Span
 named e = map (λ (w : SpannedText). w.span) e.allow.value ++ map (λ (w : SpannedText). w.span) e.deny
 
-pub feature_list : (e : FeatureEntry) → Contains (features_spans e) e.allow.span
+pub feature_list : (e : FeatureEntry) → (length e.allow.value == 0) ≡ false → Contains (features_spans e) e.allow.span
 unfolding features_spans
-feature_list e = Contains-first e.allow.span (e.exact.span ∷ named e)
+feature_list e some =
+    let here : Contains (span_if (not (length e.allow.value == 0)) e.allow.span) e.allow.span =
+    subst (λ (b : Bool). Contains (span_if (not b) e.allow.span) e.allow.span) (sym some)
+    (Contains-first e.allow.span []) in
+    Contains-append_left (list_and_flag e.allow e.exact) (named e) e.allow.span
+    (Contains-append_left (span_if (not (length e.allow.value == 0)) e.allow.span) (span_if e.exact.value e.exact.span)
+    e.allow.span here)
 
-pub feature_flag : (e : FeatureEntry) → Contains (features_spans e) e.exact.span
+pub feature_flag : (e : FeatureEntry) → e.exact.value ≡ true → Contains (features_spans e) e.exact.span
 unfolding features_spans
-feature_flag e = Contains-rest e.allow.span (e.exact.span ∷ named e) e.exact.span
-    (Contains-first e.exact.span (named e))
+feature_flag e exact =
+    let here : Contains (span_if e.exact.value e.exact.span) e.exact.span =
+    subst (λ (b : Bool). Contains (span_if b e.exact.span) e.exact.span) (sym exact)
+    (Contains-first e.exact.span []) in
+    Contains-append_left (list_and_flag e.allow e.exact) (named e) e.exact.span
+    (Contains-append_right (span_if (not (length e.allow.value == 0)) e.allow.span) (span_if e.exact.value e.exact.span)
+    e.exact.span here)
 
 -- the features that an entry names are behind its list and its flag
 among_named : (e : FeatureEntry) (span : Span) → Contains (named e) span → Contains (features_spans e) span
 unfolding features_spans
-among_named e span is = Contains-rest e.allow.span (e.exact.span ∷ named e) span
-    (Contains-rest e.exact.span (named e) span is)
+among_named e span is = Contains-append_right (list_and_flag e.allow e.exact) (named e) span is
 
 pub feature_allowed : (e : FeatureEntry) (w : SpannedText) → Contains e.allow.value w
     → Contains (features_spans e) w.span

@@ -35,7 +35,7 @@ lawful_of text said is =
     let says = is.says in
     let of = says.is_tree in
     lawful text said.bans (valid_are_labels text is.config policy_id (policy_id + 1) said.bans is.valid
-    (config_are_labels text says.tree is.config (tree_holds text of.0 _ says.tree says.utf8 of.1 refl of.3)
+    (config_are_labels text says.tree is.config says.is_tree (tree_holds text of.0 _ says.tree says.utf8 of.1 refl of.3)
     (tree_apart text of.0 _ says.tree of.1 of.3) says.reads))
 
 -- ---- checksums of one entry, and of two

@@ -1,6 +1,7 @@
 ghost use Rattle.std.specs.Prelude.{◌≡◌, ◌≢◌, ◌<◌, ◌^◌, ◌++◌, [], ◌∷◌, All, length, IfOk, IfErr, OnOk};
 ghost use Rattle.std.specs.Prelude.{is_some, option_copied};
 ghost use Rattle.deny_cfg.specs.LabelSpans.{AreLabels, licence_spans, older_span, word_labels};
+ghost use Rattle.deny_cfg.specs.Marks.{IsPolicySpan};
 ghost use Rattle.deny_cfg.specs.PolicyText.{IsPolicyOf, policy_files};
 ghost use Rattle.deny_cfg.specs.PolicyView.{AreGlobsRead, builtin_file_of, policy_view};
 ghost use Rattle.deny_krates.specs.Read.{IsGraphOf};
@@ -10,7 +11,6 @@ ghost use Rattle.deny_spec_report.specs.StdReplacements.{asks_for_table};
 ghost use Rattle.deny_build_scan.specs.Why.{AreFoldersOf};
 ghost use Rattle.deny_spans.specs.Seen.{lock_file};
 ghost use Rattle.deny_spans.specs.Wanted.{AreWanted};
-ghost use Rattle.deny_toml.specs.Spans.{IsSpan};
 ghost use Rattle.deny_base_unread.specs.Bound.{Folders};
 ghost use Rattle.deny_base_unread.specs.Causes.{AreCaused};
 ghost use Rattle.deny_gate.specs.Gating.{AreShort, IsCause, IsCausedReport};
@@ -51,7 +51,7 @@ fn policy_of(alloc: Global, text: &[u8], files: &mut Files) -> Result<Policy, Ga
     ensures ok { IfOk result (IsPolicyOf text.now policy_id) }
     ensures labels { IfOk result (λ policy. AreLabels text.now (word_labels policy.bans)) }
     ensures licence_labels { IfOk result (λ policy. AreLabels text.now (licence_spans policy.licenses)) }
-    ensures older_key { IfOk result (λ policy. All (IsSpan text.now) (older_span policy.bans)) }
+    ensures older_key { IfOk result (λ policy. All (IsPolicySpan text.now) (older_span policy.bans)) }
     ensures read { IfOk result (λ policy. AreGlobsRead policy.bans) }
     ensures apart { IfOk result AreEntriesApart }
     ensures err { IfErr result (IsPolicyCause text.now) }
@@ -312,7 +312,8 @@ fn report_on_metadata<D: PackageFiles>(
 /// where the policy's text has faults, `Invalid` exactly where entries clash, `Metadata` exactly where the
 /// metadata has a fault, which is its first, and `Replacement` exactly where the policy asks for a table,
 /// and no bytes came (0) or they first break at this offset. `Memory` can come at any point. Each label, of
-/// a finding or of a clash, lies on character boundaries in its file.
+/// a finding or of a clash, lies on character boundaries in its file; in the policy's, it marks a value of
+/// the text's tree or the name of a spec in one, or of a clash also the byte of an extension.
 ///
 /// A manifest that cannot be read or is malformed does not stop a report, nor does a folder or a file of a
 /// package: the report lists it, and is made of the others. Something is not read only where a call failed

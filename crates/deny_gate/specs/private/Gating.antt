@@ -1,5 +1,5 @@
 -- A report as it is made: what is read and judged before it, and the causes of errors on the way.
-use Rattle.std.specs.Prelude.{◌≡◌, ℕ, Bool, IsTrue, List, [], map, filter}
+use Rattle.std.specs.Prelude.{◌≡◌, ℕ, Bool, IsTrue, List, [], length, map, filter}
 use Rattle.std.specs.Prelude.{Option, None, Some, IfSome, option_copied}
 use Rattle.std.specs.List.Sorted.{IsStrictlySortedBy}
 use Rattle.deny_base.specs.declared.entry.Hit.{Hit}
@@ -90,7 +90,7 @@ pub record IsReportSeen (old new : Disk) (said : Policy) (g : Graph) (extras : E
   pub seen : IsSeen old.files g extras.registries first report.files (of_manifests report.unread) report.malformed view
   pub packages_seen : AreSeenBy old.files (building_of said.bans) extras.home g (of_packages report.unread) packages
   pub causes : HaveCauses old new (building_of said.bans) extras.home g (of_packages report.unread) packages
-  pub spans : ViewLies report.files view
+  pub spans : ViewLies (length first) report.files view
   pub lines : AreLockLines g
   pub is_report : IsReport (circumstances_of said g extras.replacements view packages) report
 
@@ -175,7 +175,7 @@ pub record AreGraphResults (old new : Disk) (said : Policy) (g : Graph) (extras 
   pub seen : IsSeen old.files g extras.registries first files (of_manifests checked.unread) checked.malformed view
   pub packages_seen : AreSeenBy old.files (building_of said.bans) extras.home g (of_packages checked.unread) packages
   pub causes : HaveCauses old new (building_of said.bans) extras.home g (of_packages checked.unread) packages
-  pub spans : ViewLies files view
+  pub spans : ViewLies (length first) files view
   pub lines : AreLockLines g
   pub results : AreResults (circumstances_of said g extras.replacements view packages) checked.results
 

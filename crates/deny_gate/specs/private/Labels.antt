@@ -1,5 +1,6 @@
 -- The spans of a policy that labels mark.
-use Rattle.std.specs.Prelude.{◌++◌, ◌∷◌, [], ℕ, List, Option, None, Some, Contains, filter, map, not}
+use Rattle.std.specs.Prelude.{◌++◌, ◌==◌, ◌∷◌, [], ℕ, Bool, List, Option, None, Some, Contains, filter, length, map}
+use Rattle.std.specs.Prelude.{not, if◌then◌else◌}
 use Rattle.std.specs.List.{flat_map}
 use Rattle.deny_base.specs.declared.span.Span.{Span}
 use Rattle.deny_spec.specs.Building.{AllowedPath, Building, Bypass, ScriptGlob}
@@ -35,9 +36,17 @@ abbrev pub ignore_spans : Option Replacing → List Span
 ignore_spans None = []
 ignore_spans (Some r) = flat_map entry_spans r.ignore
 
--- the spans of an entry of `features`: its list `allow`, its flag `exact` and the features that it names
+-- a span, where this holds
+abbrev pub span_if : Bool → Span → List Span
+span_if b span = if b then span ∷ [] else []
+
+-- the list `allow` of an entry of `features`, where it has elements, and its flag `exact`, where it is set
+abbrev pub list_and_flag : Spanned (List SpannedText) → Spanned Bool → List Span
+list_and_flag allow exact = span_if (not (length allow.value == 0)) allow.span ++ span_if exact.value exact.span
+
+-- the spans of an entry of `features`: its list, its flag and the features that it names
 unfoldable pub features_spans : FeatureEntry → List Span
-features_spans e = e.allow.span ∷ e.exact.span ∷ (map (λ w. w.span) e.allow.value ++ map (λ w. w.span) e.deny)
+features_spans e = list_and_flag e.allow e.exact ++ (map (λ w. w.span) e.allow.value ++ map (λ w. w.span) e.deny)
 
 -- the span of a level of default features
 abbrev pub own_span : {T : Type 0} → Option (Spanned T) → List Span

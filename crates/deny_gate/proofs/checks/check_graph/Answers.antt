@@ -1,9 +1,10 @@
-use Rattle.std.proofs.Common.{List, Option, ℕ, subst, sym, ◌++◌, ◌∷◌, []}
+use Rattle.std.proofs.Common.{List, Option, ℕ, length-append, subst, sym, ◌++◌, ◌∷◌, []}
 use Rattle.std.specs.Option.{option_copied}
 use Rattle.deny_cfg.specs.PolicyView.{building_of}
 use Rattle.deny_base_disk.specs.Disk.{Files}
 use Rattle.deny_rules.specs.Packages.{AreSeenBy}
 use Rattle.deny_spans.specs.Seen.{IsSeen, lock_file}
+use Rattle.deny_spans.specs.Spans.{ViewLies}
 use Rattle.deny_spans.specs.SpansView.{spans_view}
 use Rattle.deny_spans.specs.Wanted.{AreWanted}
 use Rattle.deny_base.specs.declared.unread.Unread.{Unread}
@@ -48,7 +49,8 @@ returns-clause-results g c =
           checked.packages checked.packages_seen);
       causes = causes_by_joined spans.unread others joined listed mine none old between new building home krates
           checked.packages c.synthesize.ensures.later checked.causes;
-      spans = c.in_ok-spans.ensures.lies;
+      spans = subst (λ (n : ℕ). ViewLies n c.synthesize.new.files (spans_view spans))
+          (sym (length-append c.args.files.now (lock_file krates.root krates ∷ []))) c.in_ok-spans.ensures.lies;
       lines = lines_of_spans krates spans c.in_ok-spans.ensures.spans c.lines_ascend.ensures;
       results = checked.results;
     }
