@@ -1,6 +1,6 @@
 //! The bans check.
 ghost use Rattle.std.specs.Prelude.{◌≡◌, ◌++◌, IfOk, None, OnErr, option_copied};
-ghost use Rattle.deny_cfg.specs.PolicyView.{AreGlobsRead, building_of, policy_view};
+ghost use Rattle.deny_cfg.specs.PolicyView.{building_of, policy_view};
 ghost use Rattle.deny_base_lists.specs.Ascending.{Lists};
 ghost use Rattle.deny_base_disk.specs.Disk.{IsLater};
 ghost use Rattle.deny_base.specs.KeyOrder.{key_cmp};
@@ -81,7 +81,6 @@ fn keys_of(
     uses: &Uses<'_, '_>,
     scan: &PackageScan,
 ) -> Result<List<Key>, NoMemory>
-    requires read { AreGlobsRead found.now.cfg.now }
     requires spans { AreSpansOf found.now.krates.now spans.now }
     requires uses { AreUses (policy_view found.now.cfg.now) found.now.krates.now (spans_view spans.now) uses.now }
     ensures { IfOk result (Lists key_cmp (IsByRule
@@ -136,7 +135,6 @@ pub fn check<D: PackageFiles>(
     sink: &mut List<Pack>,
 ) -> Result<BansEnd, NoMemory>
     requires table { IsTableThere ctx.now.cfg.now (option_copied ctx.now.table) }
-    requires read { AreGlobsRead ctx.now.cfg.now }
     requires spans { AreSpansOf ctx.now.krates.now ctx.now.krate_spans.now }
     ensures checked { IfOk result (IsCheckOf (D.seen disk.old) (D.seen disk.new) ctx.now.cfg.now ctx.now.krates.now
         (option_copied ctx.now.table) (option_copied ctx.now.home) ctx.now.krate_spans.now sink.old sink.new) }
@@ -170,7 +168,6 @@ fn check_found<D: PackageFiles>(
     sink: &mut List<Pack>,
 ) -> Result<BansEnd, NoMemory>
     requires table { IsTableThere found.now.cfg.now (option_copied table) }
-    requires read { AreGlobsRead found.now.cfg.now }
     requires spans { AreSpansOf found.now.krates.now spans.now }
     requires facts { AreFacts (policy_view found.now.cfg.now) found.now.krates.now (facts_of found.now.marks) }
     ensures checked { IfOk result (IsCheckOf (D.seen disk.old) (D.seen disk.new) found.now.cfg.now found.now.krates.now
@@ -201,7 +198,6 @@ fn report_scan(
     sink: &mut List<Pack>,
 ) -> Result<HitsAndEdges, NoMemory>
     requires table { IsTableThere found.now.cfg.now (option_copied table) }
-    requires read { AreGlobsRead found.now.cfg.now }
     requires spans { AreSpansOf found.now.krates.now spans.now }
     requires facts { AreFacts (policy_view found.now.cfg.now) found.now.krates.now (facts_of found.now.marks) }
     requires reached { AreReached found.now.krates.now scan.now.reached.items }

@@ -1,9 +1,8 @@
 //! What is seen of packages, and their keys, where a policy has a build configuration.
 ghost use Rattle.std.specs.Prelude.{◌≡◌, ◌++◌, ◌<◌, IfOk, None, OnOk, Some, option_copied};
 ghost use Rattle.deny_build.specs.ScanningOf.{scanning_of};
-ghost use Rattle.deny_cfg_build.specs.Build.{IsReadBuild};
 ghost use Rattle.deny_cfg_build.specs.BuildingView.{building_view};
-ghost use Rattle.deny_cfg.specs.PolicyView.{AreGlobsRead, building_of};
+ghost use Rattle.deny_cfg.specs.PolicyView.{building_of};
 ghost use Rattle.deny_base_lists.specs.Ascending.{Adds};
 ghost use Rattle.deny_base_disk.specs.Disk.{IsLater};
 ghost use Rattle.deny_build_scan.specs.Why.{AreFoldersOf};
@@ -45,7 +44,6 @@ pub fn scan_packages<D: PackageFiles>(
     home: Option<&str>,
     disk: &mut D,
 ) -> Result<PackageScan, NoMemory>
-    requires read { AreGlobsRead cfg.now }
     ensures reached { IfOk result (λ scan. AreReached krates.now scan.reached.items) }
     ensures seen { IfOk result (λ scan. AreSeenBy (D.seen disk.old).files (building_of cfg.now)
         (option_copied home.entry) krates.now scan.unread scan.packages) }
@@ -76,7 +74,6 @@ fn scan_by_config<D: PackageFiles>(
     reached: Vec<bool>,
     disk: &mut D,
 ) -> Result<PackageScan, NoMemory>
-    requires read { IsReadBuild config.now }
     requires reached { AreReached krates.now reached.items }
     ensures reached { IfOk result (λ scan. AreReached krates.now scan.reached.items) }
     ensures seen { IfOk result (λ scan. AreScanned (D.seen disk.old).files (building_view config.now)

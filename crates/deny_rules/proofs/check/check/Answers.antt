@@ -6,7 +6,6 @@ check_found-requires g c =
     let krates = c.in_ok-found.ensures.krates in
     record {
       table = rw (cfg) c.requires.table;
-      read = rw (cfg) c.requires.read;
       spans = rw (krates) c.requires.spans;
       facts = c.in_ok-found.ensures.facts;
     }
