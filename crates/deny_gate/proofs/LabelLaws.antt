@@ -234,8 +234,7 @@ module _ (p : Policy) (file : ℕ) where
       let at = from_contains_map (λ (c : Crate). crate_key code.ExactFeaturesMismatch c.place e.spec.span)
       (filter (is_mismatch_reported p g e) g.crates) key of.of in
       let passes = passes_filter (is_mismatch_reported p g e) g.crates at.0 at.1 in
-      let both = and_parts (matches e.spec at.0) (e.exact.value && is_mismatched p g e at.0) passes in
-      (
+      let both = and_parts (matches e.spec at.0) (e.exact.value && is_mismatched p g e at.0) passes in (
         e,
         of.member,
         (and_parts e.exact.value (is_mismatched p g e at.0) both.1).0,
