@@ -35,6 +35,7 @@ use Rattle.deny_spec.specs.Bans.{wrapper_of}
 use Rattle.deny_spec.specs.Graph.{Crate, Graph}
 use Rattle.deny_spec.specs.Keys.{crate_key, key_of, unused_key}
 use Rattle.deny_spec.specs.Licensing.{Exception, Licensing}
+use Rattle.deny_spec.specs.Match.{matches}
 use Rattle.deny_spec.specs.Policy.{AllowEntry, Ban, Entry, FeatureEntry, Policy, Replacing, Root, Spec}
 use Rattle.deny_spec.specs.Policy.{SpannedText}
 use Rattle.deny_spec.specs.Skips.{has_root, unmatched_skip_root_keys}
@@ -205,7 +206,7 @@ module _ (p : Policy) (file : ℕ) where
       one_more (primary file w.span message) (map (λ (v : SpannedText). primary file v.span message) ws) refl
       (known w (Contains-first w ws)) (of_words message ws (λ v is. known v (Contains-rest w ws v is)))
 
-  pub of_mismatch : (e : FeatureEntry) (o : Option Crate) → Contains p.features e
+  pub of_mismatch : (e : FeatureEntry) (o : Option Crate) → Contains p.features e → e.exact.value ≡ true
       → AreOf (spans_of p) file (option_map_or (mismatch_labels file e) o [])
   unfolding missing
   of_mismatch e None written exact = none
