@@ -1,5 +1,6 @@
 //! The build check of one crate.
 ghost use Rattle.std.specs.Prelude.{◌<◌, ◌≡◌, ◌^◌, Some, length, slice_get};
+ghost use Rattle.std.specs.Option.{option_copied};
 ghost use Rattle.deny_krates.specs.Crates.{crate_view};
 
 use crate::graphs::TWO_P;
@@ -101,6 +102,12 @@ fn checked(
     Ok(text)
 }
 
+fn krate_at(krates: &[Krate], place: u32) -> Option<&Krate>
+    ensures { option_copied result ≡ slice_get krates.now place }
+{
+    krates.get(place as usize)
+}
+
 fn checked_at(
     alloc: Global,
     config: &ValidBuildConfig,
@@ -108,7 +115,7 @@ fn checked_at(
     disk: &mut MemoryDisk,
 ) -> Result<Text, NoMemory> {
     match built(alloc, TWO_P) {
-        Ok(krates) => match krates.krates().get(place as usize) {
+        Ok(krates) => match krate_at(krates.krates(), place) {
             Some(krate) => checked(alloc, config, &krates, place, krate, disk),
             None => Err(NoMemory),
         },
