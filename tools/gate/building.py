@@ -118,7 +118,7 @@ def helps():
     with checkout(has_rt=False) as at:
         status, out, said = at.run("deny", "--help")
         yield "a page", (status, said, at.run("deny", "-h")), (0, "", (0, out, ""))
-        for text in "check [OPTIONS] POLICY METADATA", "--home=", "--registry=", "docs/USE.md":
+        for text in "check [OPTIONS] POLICY METADATA", "--home=", "--registry=", "--today=", "docs/USE.md":
             yield "which has %s" % text, text in out, True
 
 

@@ -9,6 +9,7 @@ page's tool where they are called without the front door, or from the rules of w
 """
 
 import contextlib
+import datetime
 import json
 import os
 import pty
@@ -424,6 +425,50 @@ def homes(scene):
         yield f"cargo's home {given or 'of the variable'}".replace(str(scene.top), ""), words, [f"--home={home}"]
 
 
+# Policies that ask for the day, or not; what the program judges does not hang on which day it is.
+DATED = [
+    ("a skip that expires", "[bans]\nskip = [{ name = 'plain', expires = '2026-01-31' }]\n", 1),
+    ("a date of TOML", "[bans]\nskip = [{ name = 'plain', expires = 2026-01-31 }]\n", 1),
+    ("a bypass", "[bans.build]\nbypass = [{ name = 'plain', expires = 9999-12-31 }]\n", 1),
+    ("an exception", "[bans]\n[[licenses.exceptions]]\nname = 'a'\nallow = []\nexpires = 9999-12-31\n", 1),
+    ("a day that is none", "[bans]\nskip = [{ name = 'plain', expires = '2026-02-30' }]\n", 1),
+    ("a date that Python refuses", "[bans]\nskip = [{ name = 'plain', expires = 2026-02-30 }]\n", 1),
+    ("no waiver", PASSES, 0), ("a waiver without a day", "[bans]\nskip = [{ name = 'plain' }]\n", 0),
+    ("the word elsewhere", "[bans]\nskip = [{ name = 'plain', reason = 'expires' }]\n[advisories]\nexpires = 1\n", 0),
+]
+
+
+def days_of(scene):
+    """The days that the program was handed last."""
+    return [word.removeprefix("--today=") for word in scene.last("bin/burkativ") if word.startswith("--today=")]
+
+
+def days(scene):
+    for name, text, count in DATED:
+        scene.write({"up/shop/deny.toml": text})
+        before = str(datetime.date.today())
+        scene.door("--format=json")
+        told, after = days_of(scene), str(datetime.date.today())
+        yield f"the day: {name}", (len(told), set(told) <= {before, after}), (count, True)
+    scene.write({"up/shop/deny.toml": DATED[0][1]})
+    for zone in "UTC-14", "UTC+12":  # places where it is never the same day
+        before = day_in(zone)
+        scene.door(TZ=zone)
+        yield f"the day at {zone}", set(days_of(scene)) <= {before, day_in(zone)}, True
+    text = "[bans]\nskip = [{ name = 'plain', expires = '%s' }]\n"
+    for expires, codes in ("2026-01-31", ["waiver-expired"]), ("9999-12-31", ["skipped", "unnecessary-skip"]):
+        scene.write({"up/shop/deny.toml": text % expires})
+        status, lines, _ = scene.door("--format=json")
+        found = [json.loads(line)["fields"].get("code") for line in lines.splitlines()]
+        yield f"a waiver until {expires}", (status, [code for code in found if code]), (0, codes)
+
+
+def day_in(zone):
+    """The day at a place, by the variable TZ."""
+    said = subprocess.run(["date", "+%F"], env={**os.environ, "TZ": zone}, capture_output=True, text=True)
+    return said.stdout.strip()
+
+
 # ---- what is shown
 
 
@@ -677,8 +722,8 @@ def signals(scene):
 
 
 SITUATIONS = [
-    policies, named_policies, workspaces, cargos, graphs, locks, registries, homes, formats, details, float_metadata,
-    unread, unreadable, answers, installations, ends, terminals, signals,
+    policies, named_policies, workspaces, cargos, graphs, locks, registries, homes, days, formats, details,
+    float_metadata, unread, unreadable, answers, installations, ends, terminals, signals,
 ]
 
 

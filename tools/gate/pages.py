@@ -44,9 +44,13 @@ def verdict(bits=0):
     return line("verdict", bits=bits, verdict="fail" if bits else "pass")
 
 
-def unknown_key(key):
-    fault = {"start": 5, "end": 9, "key": key, "kind": "unknown"}
+def faulty_key(key, kind):
+    fault = {"start": 5, "end": 9, "key": key, "kind": kind}
     return line("stop", stop="config", faults=[fault])
+
+
+def unknown_key(key):
+    return faulty_key(key, "unknown")
 
 
 def krate(name, *parents, **more):
@@ -233,6 +237,17 @@ def refused_keys():
         yield "%s is unknown" % key, shown(AT, unknown_key(key)), (19, wanted)
 
 
+def waivers():
+    labels = [label(3, 5, "2026-01-31", "expired here"), label(3, 20, "for now", "reason")]
+    expired = diagnostic("warning", "waiver-expired", "waiver 'a = 1' expired on 2026-01-31", labels=labels)
+    wanted = "p.toml:3:5: warning[waiver-expired]: waiver 'a = 1' expired on 2026-01-31\n"
+    wanted += "    p.toml:3:20: reason: for now\n1 warning; verdict: pass\n"
+    yield "a waiver that expired", shown(AT, expired + verdict()), (0, wanted)
+    wanted = "p.toml: bytes 5..9: error[no-today]: bans.skip.0.expires: whether this day is past cannot be told, since "
+    wanted += "none was handed in: --today=YYYY-MM-DD does it\n1 error; stopped: config\n"
+    yield "a day, and none at hand", shown(AT, faulty_key("bans.skip.0.expires", "no-today")), (19, wanted)
+
+
 def options():
     for words in ["--colour=never"], ["--color=blue"], ["--format"], ["--format=xml"], ["--notes=1"], ["-x", "check"]:
         yield "%s is no option" % " ".join(words), shown(words, verdict())[0], 16
@@ -340,6 +355,7 @@ def situations(folder):
     yield from colours()
     yield from annotations(folder)
     yield from refused_keys()
+    yield from waivers()
     yield from options()
     yield from handed_on(folder / "standard input")
     yield from endings(folder)

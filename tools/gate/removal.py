@@ -5,7 +5,8 @@
 
 Of each policy all dead entries are taken out at once, and some of them, but for the last wrapper of a ban. Blanks stand
 in their place, so all else stays where it is, and the lines of the second run are to be those of the first one, without
-the reports of the entries and their dead lines. The last line says how much was tried.
+the reports of the entries and their dead lines. In some policies waivers have a day. The last line says how much was
+tried.
 """
 
 import json
@@ -26,11 +27,13 @@ from readings import toml
 from readings.dead import UNUSED
 from readings.disks import MadeDisk
 from readings.policy import read_policy
-from readings.report import line, report
+from readings.report import Options, line, report
 from readings.rules import BITS, wrappers_of
+from waiver_cases import some_dated_case
 
 SEEDS = range(20000, 21000)
 OF_PACKAGES = range(21000, 21500)
+DATED = range(21500, 22000)
 
 # ---- a policy without entries
 
@@ -146,28 +149,30 @@ def verdict_of(findings):
 
 
 class Case:
-    """The texts of a case, and the files of its packages, by their paths from the folder at hand."""
+    """The texts of a case, the words that name its day, and the files of its packages, by their paths from the folder
+    at hand."""
 
     def __init__(self, case):
+        self.day = [word for word in case["words"] if word.startswith("--today=")]
         of_packages = {path[1:]: text for path, text in case["files"].items() if path.startswith("/")}
         self.files = {path: text_of_case(text) for path, text in of_packages.items()}
         self.texts = [text_of_case(text) for path, text in case["files"].items() if not path.startswith("/")]
         self.texts[1] = self.texts[1].replace(b'"/w', b'"w').replace(b'"/r/', b'"r/')
 
 
-def run_readings(texts, files):
+def run_readings(texts, day, files):
     disk = MadeDisk({path: lambda text=text: text for path, text in files.items()})
-    return report(*texts, disk=disk)[0].encode()
+    return report(*texts, disk=disk, options=Options(["check", *day]))[0].encode()
 
 
-def run_program(program, texts, files):
+def run_program(program, texts, day, files):
     names = ("deny.toml", "metadata.json", "std.bin")[: len(texts)]
     with tempfile.TemporaryDirectory() as folder:
         for name, text in [*zip(names, texts), *files.items()]:
             path = Path(folder) / name
             path.parent.mkdir(parents=True, exist_ok=True)
             path.write_bytes(text)
-        done = subprocess.run([program, "check", *names], capture_output=True, cwd=folder)
+        done = subprocess.run([program, "check", *day, *names], capture_output=True, cwd=folder)
     return done.stdout or done.stderr
 
 
@@ -186,9 +191,10 @@ def choices(seed, ranges):
 
 
 def cases():
-    """Policies by chance, each with its number: over crates, and over packages."""
+    """Policies by chance, each with its number: over crates, over packages, and with waivers that have a day."""
     yield from ((seed, Case(some_whole_case(seed))) for seed in SEEDS)
     yield from ((seed, Case(some_case(seed))) for seed in OF_PACKAGES)
+    yield from ((seed, Case(some_dated_case(seed))) for seed in DATED)
 
 
 def main():
@@ -200,13 +206,14 @@ def main():
     run = (lambda *told: run_program(program, *told)) if program else run_readings
     for seed, case in cases():
         texts = case.texts
-        before = Told(run(texts, case.files))
+        before = Told(run(texts, case.day, case.files))
         judged += not before.lines["stop"]
-        ranges = removable(read_policy(texts[0]), before.dead()) if before.dead() else []
+        dead = before.dead()
+        ranges = removable(read_policy(texts[0], Options(["check", *case.day]).today), dead) if dead else []
         policies += bool(ranges)
         for list_ in choices(seed, ranges):
             taken += len(list_)
-            after = Told(run([without(texts[0], list_), *texts[1:]], case.files)).all()
+            after = Told(run([without(texts[0], list_), *texts[1:]], case.day, case.files)).all()
             if after != before.without(texts[0], list_):
                 sys.exit("seed %d without %s: more changes than its reports" % (seed, list_))
     print("%d policies, %d of them without %d dead entries: the reports of these are gone" % (judged, policies, taken))

@@ -13,7 +13,7 @@ use Rattle.deny_base.specs.LicenseCode.{license_code_name, license_code_number, 
 use Rattle.deny_base.specs.declared.code.Code.{Code}
 use Rattle.deny_base.specs.declared.code.Code.TheVariants as bans
 use Rattle.deny_base.specs.declared.code.DiagnosticCode.{DiagnosticCode}
-use Rattle.deny_base.specs.declared.code.DiagnosticCode.TheVariants.{Deprecated, Bans, License}
+use Rattle.deny_base.specs.declared.code.DiagnosticCode.TheVariants.{Deprecated, Bans, License, Expired}
 use Rattle.deny_base.specs.declared.license_code.LicenseCode.{LicenseCode}
 use Rattle.deny_base.specs.declared.license_code.LicenseCode.TheVariants as license
 
@@ -72,7 +72,7 @@ license_codes =
 
 -- every code, in the order of declaration
 abbrev pub all_codes : List DiagnosticCode
-all_codes = Deprecated ∷ (map Bans bans_codes ++ map License license_codes)
+all_codes = Deprecated ∷ (map Bans bans_codes ++ (map License license_codes ++ Expired ∷ []))
 
 code_at : ℕ → DiagnosticCode
 code_at n = slice_index_or all_codes n Deprecated
@@ -123,6 +123,7 @@ code_at-number (License license.ParseError) = refl
 code_at-number (License license.SkippedPrivateWorkspaceCrate) = refl
 code_at-number (License license.LicenseNotEncountered) = refl
 code_at-number (License license.LicenseExceptionNotEncountered) = refl
+code_at-number Expired = refl
 
 -- a test that all codes of the list pass is passed by every code
 pub each_code : (test : DiagnosticCode → Bool) → IsTrue (list_all test all_codes) → (code : DiagnosticCode)

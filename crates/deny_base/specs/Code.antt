@@ -11,9 +11,10 @@ use Rattle.deny_base.specs.Rule.{OnStdReplacements, OnBuildScripts, OnPackageFil
 use Rattle.deny_base.specs.declared.code.Code.{Code}
 use Rattle.deny_base.specs.declared.code.Code.TheVariants as bans
 use Rattle.deny_base.specs.declared.code.DiagnosticCode.{DiagnosticCode}
-use Rattle.deny_base.specs.declared.code.DiagnosticCode.TheVariants.{Deprecated, Bans, License}
+use Rattle.deny_base.specs.declared.code.DiagnosticCode.TheVariants.{Deprecated, Bans, License, Expired}
 use Rattle.deny_base.specs.declared.entry.EntryKind.{EntryKind}
 use Rattle.deny_base.specs.declared.entry.EntryKind.TheVariants as kind
+use Rattle.deny_base.specs.declared.license_code.LicenseCode.TheVariants as license
 use Rattle.deny_base.specs.declared.key.Section.{Section}
 use Rattle.deny_base.specs.declared.key.Section.TheVariants as section
 
@@ -70,6 +71,7 @@ abbrev pub diagnostic_code_name : DiagnosticCode → List ℕ
 diagnostic_code_name Deprecated = codes "deprecated"
 diagnostic_code_name (Bans code) = code_name code
 diagnostic_code_name (License code) = license_code_name code
+diagnostic_code_name Expired = codes "waiver-expired"
 
 -- ---- what is true of each
 
@@ -81,6 +83,7 @@ abbrev pub unused_kind : DiagnosticCode → Option EntryKind
 unused_kind Deprecated = None
 unused_kind (Bans code) = bans_unused_kind code
 unused_kind (License code) = license_unused_kind code
+unused_kind Expired = None
 
 -- whether the entry of the key is a span of the policy, and neither empty nor a span of a manifest
 abbrev pub bans_have_entry : Code → Bool
@@ -90,6 +93,7 @@ abbrev pub has_entry : DiagnosticCode → Bool
 has_entry Deprecated = true
 has_entry (Bans code) = bans_have_entry code
 has_entry (License code) = license_has_entry code
+has_entry Expired = true
 
 -- whether findings of a code need no manifest and no package, so that they are exact on every disk; those of licences
 -- need none
@@ -100,6 +104,7 @@ abbrev pub asks_no_file : DiagnosticCode → Bool
 asks_no_file Deprecated = true
 asks_no_file (Bans code) = is_free code
 asks_no_file (License code) = true
+asks_no_file Expired = true
 
 -- the findings about a file of a package, or about an entry for one, show no crate
 abbrev pub bans_is_of_path : Code → Bool
@@ -109,20 +114,23 @@ unfoldable pub is_of_path : DiagnosticCode → Bool
 is_of_path Deprecated = false
 is_of_path (Bans code) = bans_is_of_path code
 is_of_path (License code) = license_is_of_path code
+is_of_path Expired = false
 
 -- the codes that keys of builds bear
 abbrev pub is_of_builds : Code → Bool
 is_of_builds code = (about code).of_builds
 
 -- the codes whose diagnostics are made beside the rules that find them: all but those of what the standard library
--- replaces and those of licences, whose diagnostics are made where they are found
+-- replaces and those of licences, whose diagnostics are made where they are found, and the warnings about the policy
+-- itself, which are made as it is read
 abbrev pub bans_reported_here : Code → Bool
 bans_reported_here code = (about code).here
 
 abbrev pub is_reported_here : DiagnosticCode → Bool
-is_reported_here Deprecated = true
+is_reported_here Deprecated = false
 is_reported_here (Bans code) = bans_reported_here code
 is_reported_here (License code) = license_reported_here code
+is_reported_here Expired = false
 
 -- the rule that can report errors by the code
 abbrev pub bans_rule : Code → Option Rule
@@ -132,6 +140,7 @@ abbrev pub rule_of : DiagnosticCode → Option Rule
 rule_of Deprecated = None
 rule_of (Bans code) = bans_rule code
 rule_of (License code) = license_rule code
+rule_of Expired = None
 
 -- ---- order
 
@@ -143,11 +152,16 @@ code_number code = (about code).number
 abbrev pub first_license : ℕ
 first_license = 2 + code_number bans.UnmatchedReplacementIgnore
 
--- deprecated keys come first, then the codes of bans, then those of licences
+-- the number of the code of expired waivers: that behind the last of licences
+abbrev pub past_licenses : ℕ
+past_licenses = 1 + (first_license + license_code_number license.LicenseExceptionNotEncountered)
+
+-- deprecated keys come first, then the codes of bans, then those of licences, then expired waivers
 unfoldable pub diagnostic_code_number : DiagnosticCode → ℕ
 diagnostic_code_number Deprecated = 0
 diagnostic_code_number (Bans code) = 1 + code_number code
 diagnostic_code_number (License code) = first_license + license_code_number code
+diagnostic_code_number Expired = past_licenses
 
 -- sections are ordered as they are declared
 unfoldable pub section_number : Section → ℕ

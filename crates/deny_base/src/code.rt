@@ -254,6 +254,8 @@ pub enum DiagnosticCode {
     Deprecated,
     Bans(Code),
     License(LicenseCode),
+    /// A waiver of the policy counts no longer: the day that it names is past.
+    Expired,
 }
 
 impl DiagnosticCode {
@@ -265,6 +267,7 @@ impl DiagnosticCode {
             DiagnosticCode::Deprecated => "deprecated",
             DiagnosticCode::Bans(code) => code.name(),
             DiagnosticCode::License(code) => code.name(),
+            DiagnosticCode::Expired => "waiver-expired",
         }
     }
 
@@ -280,6 +283,11 @@ impl DiagnosticCode {
                 let last = Code::UnmatchedReplacementIgnore.number();
                 2 + u32::from(last) + u32::from(code.number())
             },
+            DiagnosticCode::Expired => {
+                let last = Code::UnmatchedReplacementIgnore.number();
+                let last_license = LicenseCode::LicenseExceptionNotEncountered.number();
+                3 + u32::from(last) + u32::from(last_license)
+            },
         }
     }
 
@@ -288,7 +296,7 @@ impl DiagnosticCode {
         ensures { result ≡ unused_kind self }
     {
         match self {
-            DiagnosticCode::Deprecated => None,
+            DiagnosticCode::Deprecated | DiagnosticCode::Expired => None,
             DiagnosticCode::Bans(code) => code.unused_kind(),
             DiagnosticCode::License(code) => code.unused_kind(),
         }
@@ -300,7 +308,9 @@ impl DiagnosticCode {
         ensures { result ≡ is_of_path self }
     {
         match self {
-            DiagnosticCode::Deprecated | DiagnosticCode::License(_) => false,
+            DiagnosticCode::Deprecated | DiagnosticCode::License(_) | DiagnosticCode::Expired => {
+                false
+            },
             DiagnosticCode::Bans(code) => code.is_of_path(),
         }
     }

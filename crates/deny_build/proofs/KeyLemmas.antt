@@ -12,7 +12,7 @@ use Rattle.std.proofs.lemmas.Simd.{map-map}
 use Rattle.deny_base.specs.declared.code.Code.TheVariants as code
 use Rattle.deny_base.specs.declared.span.Kid.{Kid}
 use Rattle.deny_base.specs.declared.span.Span.{Span}
-use Rattle.deny_spec.specs.Building.{AllowedPath, Building, Bypass, ScriptGlob}
+use Rattle.deny_spec.specs.Building.{AllowedPath, Bypass, ScriptGlob}
 use Rattle.deny_spec.specs.declared.package.Package.{Package}
 use Rattle.deny_spec.specs.declared.package.PackageFile.{PackageFile}
 use Rattle.deny_spec.specs.declared.package.Seen.{Seen}
@@ -22,7 +22,7 @@ use Rattle.deny_spec_report.specs.PackageFiles.{DetectedExecutable}
 use Rattle.deny_spec_report.specs.PackageFiles.{DetectedExecutableScript, Harmless, PathBypassed, PathBypassedByGlob}
 use Rattle.deny_spec_report.specs.PackageFiles.{UnableToCheckPath, class_by, class_of, globs_of, hits_glob, hits_path}
 use Rattle.deny_spec_report.specs.PackageFiles.{is_decided_by, path_of_used, path_span, step_by, step_of}
-use Rattle.deny_spec_report.specs.Packages.{Scanning, class_keys, deprecated_key, deprecated_keys}
+use Rattle.deny_spec_report.specs.Packages.{Scanning, class_keys}
 use Rattle.deny_spec_report.specs.Packages.{features_enabled_keys}
 use Rattle.deny_spec_report.specs.Packages.{file_keys, folder_key, package_of, path_key, right_script_keys}
 use Rattle.deny_spec_report.specs.Packages.{script_shown}
@@ -40,17 +40,6 @@ use Rattle.deny_build.specs.private.FileMatch.{matched_by, number_at}
 use Rattle.deny_build.specs.private.Unmatched.{is_path_matched, missed_glob_keys, missed_keys, missed_path_keys}
 use Rattle.deny_build.proofs.MatchLemmas.{matches_glob_as, matches_path_as, none_found}
 use Rattle.deny_build.proofs.SetLemmas.{any-map, decides_by}
-
--- ---- the deprecated key
-
-pub deprecated_some : (b : Building) (span : Span) → b.older_key ≡ Some span
-    → deprecated_key span ∷ [] ≡ deprecated_keys b
-unfolding deprecated_keys
-deprecated_some b span is = ap (λ o. option_map_or (λ (r : Span). deprecated_key r ∷ []) o []) (sym is)
-
-pub deprecated_none : (b : Building) → b.older_key ≡ None → [] ≡ deprecated_keys b
-unfolding deprecated_keys
-deprecated_none b is = ap (λ o. option_map_or (λ (r : Span). deprecated_key r ∷ []) o []) (sym is)
 
 -- ---- build scripts
 

@@ -14,7 +14,6 @@
 
 mod build_keys;
 mod ctx;
-mod deprecated;
 mod file_keys;
 mod files;
 mod glob_texts;
@@ -36,7 +35,6 @@ pub use deny_build_file::{
     validate_checksum,
 };
 pub use deny_krates_reach::build_reach;
-pub use deprecated::add_deprecated_keys;
 pub use hits::bypass_hits;
 pub use krate_check::{BuildNotes, check_build};
 pub use laws::{joined_checks, joined_keys};

@@ -4,6 +4,7 @@ use Rattle.std.specs.Prelude.{IfErr, Result}
 use Rattle.std.specs.Result.{IsErrAnd}
 use Rattle.deny_base.specs.declared.files.File.{File}
 use Rattle.deny_cfg_build.specs.Build.{HasFiles}
+use Rattle.deny_cfg_entries.specs.declared.day.Day.{Day}
 use Rattle.deny_cfg_tables.specs.declared.bans.cfg.config.Config.{Config}
 use Rattle.deny_cfg_tables.specs.declared.licenses.config.Config as licenses
 use Rattle.deny_cfg.specs.PolicyText.{Says}
@@ -19,8 +20,9 @@ handed_on (Ok x) e P is holds = tt
 handed_on (Err f) e P is holds = subst P (sym is) holds
 
 -- when out of memory, the files that are asked for are added, or none is
-pub memory_adds : (text : List ℕ) (config : Config) (licensing : Option licenses.Config) (old new : List File)
-    → Says text config licensing → HasFiles (files_asked config) old new → AddsOnError error.Memory text old new
-memory_adds text config licensing old new says (inl same) = inl same
-memory_adds text config licensing old new says (inr added) =
+pub memory_adds : (today : Option Day) (text : List ℕ) (config : Config) (licensing : Option licenses.Config)
+    (old new : List File) → Says today text config licensing → HasFiles (files_asked config) old new
+    → AddsOnError today error.Memory text old new
+memory_adds today text config licensing old new says (inl same) = inl same
+memory_adds today text config licensing old new says (inr added) =
     inr record { config = config; licensing = licensing; says = says; is = added }

@@ -1,5 +1,6 @@
 -- Spans that are among others: what holds of the others holds of them, and no start occurs more often.
 use Rattle.std.proofs.Common.{◌≡◌, ◌+◌, ◌++◌, ℕ, List, [], ◌∷◌, ap, ◌∙◌, subst, arith}
+use Rattle.std.specs.List.{AllByRecursion, flat_map}
 use Rattle.std.proofs.lemmas.List.{map-append}
 use Rattle.deny_base.specs.declared.span.Span.{Span}
 use Rattle.deny_base_lists.proofs.Each.{all_append}
@@ -34,6 +35,13 @@ lie_prefix P (x ∷ xs) ys lie = (lie.0, lie_prefix P xs ys lie.1)
 pub lie_rest : (P : Span → Type 0) (xs ys : List Span) → Lie P (xs ++ ys) → Lie P ys
 lie_rest P [] ys lie = lie
 lie_rest P (x ∷ xs) ys lie = lie_rest P xs ys lie.1
+
+-- what is true of the spans of all entries is true of those of each
+pub lie_each : {X : Type 0} (P : Span → Type 0) (f : X → List Span) (xs : List X) → Lie P (flat_map f xs)
+    → AllByRecursion (λ x. Lie P (f x)) xs
+lie_each P f [] lie = tt
+lie_each P f (x ∷ xs) lie =
+    (lie_prefix P (f x) (flat_map f xs) lie, lie_each P f xs (lie_rest P (f x) (flat_map f xs) lie))
 
 starts-append : (xs ys : List Span) → starts (xs ++ ys) ≡ starts xs ++ starts ys
 starts-append xs ys = map-append (λ (span : Span). span.start) xs ys

@@ -15,7 +15,8 @@ use Rattle.deny_cfg_entries.specs.Table.{ReadsTable, at_key}
 use Rattle.deny_cfg_entries.specs.Words.{ReadsAs, ReadsBool, ReadsList, ReadsSpanned, ReadsText, ReadsTexts, level_of}
 use Rattle.deny_cfg_entries.specs.declared.package_spec.PackageSpec.{PackageSpec}
 use Rattle.deny_cfg_entries.specs.declared.policy_key.PolicyKey.TheVariants as key
-use Rattle.deny_cfg_tables.proofs.ConfigLaws.{BothAlike, alike_optional}
+use Rattle.deny_cfg_entries.specs.Waivers.{ReadsExpiry}
+use Rattle.deny_cfg_tables.proofs.ConfigLaws.{BothAlike, alike_optional, one_expiry}
 use Rattle.deny_cfg_tables.specs.Build.{ReadsBuild, ReadsBypass, ReadsBypassKeys, ReadsBypassPath, ReadsChecksum}
 use Rattle.deny_cfg_tables.specs.Build.{keys_in}
 use Rattle.deny_cfg_tables.specs.Checksum.{checksum_of}
@@ -65,11 +66,15 @@ one_bypass entries x y one two =
     let paths =
     one_or [] (ReadsList (ReadsTable ReadsBypassPath)) one_paths (at_key key.Allow entries) x.allow y.allow
     (says_of key.Allow one) (says_of key.Allow two) in
+    let expires =
+    one_optional (ReadsSpanned ReadsExpiry) one_expiry (at_key key.Expires entries) x.expires y.expires
+    (says_of key.Expires one) (says_of key.Expires two) in
     λ i. record {
       build_script = script i;
       required_features = required i;
       allow_globs = globs i;
       allow = paths i;
+      expires = expires i;
     }
 
 -- two entries of `bypass` are alike: their specs are, and they give the same beside them

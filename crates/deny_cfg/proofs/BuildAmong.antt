@@ -62,14 +62,17 @@ bypass_among : (bypass : Bypass) (valid : ValidBypass) → IsBypassOf bypass val
 bypass_among bypass valid is =
     among_both (spec_span valid.spec)
     (joined (of_some own_span valid.build_script ∷ word_spans valid.required_features
-    ∷ of_some pattern_spans valid.allow_globs ∷ flat_map path_spans valid.allow ∷ []))
+    ∷ of_some pattern_spans valid.allow_globs ∷ flat_map path_spans valid.allow
+    ∷ of_some own_span valid.expires ∷ []))
     (spec_span bypass.spec) (besides bypass)
     (among_same (spec_span valid.spec) (spec_span bypass.spec) (ap spec_span is.spec))
     (among_joined
     (of_some own_span valid.build_script ∷ word_spans valid.required_features
-    ∷ of_some pattern_spans valid.allow_globs ∷ flat_map path_spans valid.allow ∷ [])
+    ∷ of_some pattern_spans valid.allow_globs ∷ flat_map path_spans valid.allow
+    ∷ of_some own_span valid.expires ∷ [])
     (of_some own_span bypass.build_script ∷ word_spans bypass.required_features
-    ∷ of_some word_spans bypass.allow_globs ∷ flat_map path_spans bypass.allow ∷ []) (
+    ∷ of_some word_spans bypass.allow_globs ∷ flat_map path_spans bypass.allow
+    ∷ of_some own_span bypass.expires ∷ []) (
       among_same (of_some own_span valid.build_script) (of_some own_span bypass.build_script)
           (ap (of_some own_span) is.build_script),
       (
@@ -80,7 +83,11 @@ bypass_among bypass valid is =
           (
             among_same (flat_map path_spans valid.allow) (flat_map path_spans bypass.allow)
                 (ap (flat_map path_spans) is.allow),
-            tt,
+            (
+              among_same (of_some own_span valid.expires) (of_some own_span bypass.expires)
+                  (ap (of_some own_span) is.expires),
+              tt,
+            ),
           ),
         ),
       ),

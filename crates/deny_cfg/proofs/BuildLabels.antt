@@ -7,6 +7,7 @@ use Rattle.deny_cfg_entries.proofs.KeyLaws.{says_of}
 use Rattle.deny_cfg_entries.specs.Entry.{ReadsEntryKeys}
 use Rattle.deny_cfg_entries.specs.PolicyKey.{name_of}
 use Rattle.deny_cfg_entries.specs.Table.{Entries, ReadsTable, ReadsThere, at_key}
+use Rattle.deny_cfg_entries.specs.Waivers.{ReadsExpiry}
 use Rattle.deny_cfg_entries.specs.Words.{ReadsList, ReadsSpanned, ReadsText, ReadsTexts}
 use Rattle.deny_cfg_entries.specs.declared.policy_key.PolicyKey.TheVariants as key
 use Rattle.deny_cfg_tables.specs.Apart.{bypass_entry-apart}
@@ -21,7 +22,7 @@ use Rattle.deny_cfg_tables.specs.declared.bans.cfg.checksum.Checksum.{Checksum}
 use Rattle.deny_toml.specs.value.Value.{Value}
 use Rattle.deny_cfg.proofs.LabelLaws.{◌▸◌, Within, WithinKey, WithinKeys, key_at, keys_within, list_within, no_more}
 use Rattle.deny_cfg.proofs.LabelLaws.{optional_within, or_within, table_within}
-use Rattle.deny_cfg.proofs.LabelReads.{entry_keys_within, meaning_within, word_within, words_within}
+use Rattle.deny_cfg.proofs.LabelReads.{day_within, entry_keys_within, meaning_within, word_within, words_within}
 use Rattle.deny_cfg.specs.LabelSpans.{joined, of_some, own_span, path_spans, word_spans}
 use Rattle.deny_cfg.specs.private.LabelSpans.{written_build_spans}
 use Rattle.deny_cfg.specs.private.LabelSpans.{written_bypass_spans}
@@ -60,6 +61,7 @@ besides bypass = joined (
     ∷ word_spans bypass.required_features
     ∷ of_some word_spans bypass.allow_globs
     ∷ flat_map path_spans bypass.allow
+    ∷ of_some own_span bypass.expires
     ∷ []
     )
 
@@ -77,6 +79,8 @@ besides_within bypass entries reads =
     ▸ or_within (flat_map path_spans) [] (ReadsList (ReadsTable ReadsBypassPath)) refl
     (list_within path_spans (ReadsTable ReadsBypassPath) path_within) (at_key key.Allow entries)
     bypass.allow (says_of key.Allow reads)
+    ▸ optional_within own_span (ReadsSpanned ReadsExpiry) day_within (at_key key.Expires entries)
+    bypass.expires (says_of key.Expires reads)
     ▸ no_more) refl
 
 bypass_within : (v : Value) (bypass : Bypass) → ReadsBypass v bypass

@@ -25,7 +25,7 @@ use Rattle.deny_cfg_tables.specs.declared.bans.cfg.bypass.Bypass.{Bypass}
 use Rattle.deny_cfg_tables.specs.declared.bans.cfg.bypass.BypassPath.{BypassPath}
 use Rattle.deny_toml.specs.Spans.{IsSpan}
 use Rattle.deny_cfg.proofs.LabelLaws.{Lie}
-use Rattle.deny_cfg.proofs.Among.{lie_prefix, lie_rest}
+use Rattle.deny_cfg.proofs.Among.{lie_each, lie_prefix, lie_rest}
 use Rattle.deny_cfg.specs.Marks.{IsByteOfMarked, IsClashSpan, IsMarked, IsPolicySpan}
 use Rattle.deny_cfg.specs.LabelSpans.{of_some, own_span, path_spans, spec_span, word_spans}
 use Rattle.deny_cfg.specs.private.LabelSpans.{written_build_spans}
@@ -165,12 +165,6 @@ module _ (text : List ℕ) (utf8 : IsUtf8 text) where
   words_lie [] lie = tt
   words_lie (w ∷ ws) lie = (lie.0, words_lie ws lie.1)
 
-  lies_each : {X : Type 0} (f : X → List Span) (xs : List X) → Lie OfPolicy (flat_map f xs)
-      → AllByRecursion (λ x. Lie OfPolicy (f x)) xs
-  lies_each f [] lie = tt
-  lies_each f (x ∷ xs) lie =
-      (lie_prefix OfPolicy (f x) (flat_map f xs) lie, lies_each f xs (lie_rest OfPolicy (f x) (flat_map f xs) lie))
-
   listed_lies : (words : Option (List SpannedText)) → Lie OfPolicy (of_some word_spans words)
       → AllByRecursion (λ (w : SpannedText). OfPolicy w.span) (listed words)
   listed_lies None lie = tt
@@ -179,11 +173,12 @@ module _ (text : List ℕ) (utf8 : IsUtf8 text) where
   listed_each : (entries : Option (List Bypass)) → Lie OfPolicy (of_some (flat_map written_bypass_spans) entries)
       → AllByRecursion (λ (b : Bypass). Lie OfPolicy (written_bypass_spans b)) (listed entries)
   listed_each None lie = tt
-  listed_each (Some entries) lie = lies_each written_bypass_spans entries lie
+  listed_each (Some entries) lie = lie_each OfPolicy written_bypass_spans entries lie
 
-  -- the globs of an entry, and its paths
+  -- the globs of an entry, its paths and its last day
   after_required : (b : Bypass) → Lie OfPolicy (written_bypass_spans b)
-      → Lie OfPolicy (of_some word_spans b.allow_globs ++ (flat_map path_spans b.allow ++ []))
+      → Lie OfPolicy
+      (of_some word_spans b.allow_globs ++ (flat_map path_spans b.allow ++ (of_some own_span b.expires ++ [])))
   after_required b lie =
       let script = of_some own_span b.build_script in
       let required = word_spans b.required_features in
@@ -193,7 +188,7 @@ module _ (text : List ℕ) (utf8 : IsUtf8 text) where
   unfolding path_faults
   paths_lie b lie =
       all_given (λ file. Lie OfPolicy (path_spans file)) (FaultLies text) path_fault path_lies b.allow
-      (lies_each path_spans b.allow (lie_prefix OfPolicy (flat_map path_spans b.allow) []
+      (lie_each OfPolicy path_spans b.allow (lie_prefix OfPolicy (flat_map path_spans b.allow) _
       (lie_rest OfPolicy (of_some word_spans b.allow_globs) _ (after_required b lie))))
 
   globs_lie : (b : Bypass) → Lie OfPolicy (written_bypass_spans b) → (found : BuildFault) → IsGlobFault b found

@@ -1,6 +1,6 @@
 -- Tables that are alike have the same view, once their globs are read.
 use Rattle.std.proofs.Common.{◌≡◌, ◌++◌, ◌∙◌, ℕ, List, [], ◌∷◌, Option, None, Some, map, refl, sym, ap, subst}
-use Rattle.std.specs.Prelude.{option_and_then, option_map}
+use Rattle.std.specs.Prelude.{filter, option_and_then, option_map}
 use Rattle.std.specs.List.{AllZip}
 use Rattle.deny_base.specs.declared.span.Span.{Span}
 use Rattle.deny_cfg_build.proofs.BuildLaws.{one_patterns}
@@ -16,8 +16,9 @@ use Rattle.deny_cfg_build.specs.declared.valid.ValidBuildConfig.{ValidBuildConfi
 use Rattle.deny_cfg_build.specs.declared.valid.ValidBypass.{ValidBypass}
 use Rattle.deny_cfg_entries.proofs.ReadsLaws.{SpecsAlike}
 use Rattle.deny_cfg_entries.specs.SpecView.{spec_view}
+use Rattle.deny_cfg_entries.specs.declared.day.Day.{Day}
 use Rattle.deny_cfg_entries.specs.declared.package_spec.PackageSpec.{PackageSpec}
-use Rattle.deny_base_lists.proofs.Alike.{same_map}
+use Rattle.deny_base_lists.proofs.Alike.{Same, alike_filter, same_map}
 use Rattle.deny_spec.specs.Policy.{SpannedText}
 use Rattle.deny_cfg_tables.proofs.ConfigLaws.{BothAlike}
 use Rattle.deny_cfg_tables.specs.declared.bans.cfg.build.BuildConfig.{BuildConfig}
@@ -25,6 +26,7 @@ use Rattle.deny_cfg_tables.specs.declared.bans.cfg.bypass.Bypass.{Bypass}
 use Rattle.deny_cfg_tables.specs.declared.bans.cfg.config.Config.{Config}
 use Rattle.deny_cfg.proofs.BuildAlike.{BuildsAlike, BuiltAlike, BypassesAlike, builds_by, listed_alike, older_keys_by}
 use Rattle.deny_cfg.proofs.ViewLaws.{same_option}
+use Rattle.deny_cfg.specs.Current.{counts, current_bans, current_build}
 use Rattle.deny_cfg.specs.PolicyView.{building_of, builtin_file_of}
 use Rattle.deny_cfg.specs.Valid.{IsValidOf, build_of, older_key_of}
 use Rattle.deny_cfg.specs.declared.bans.cfg.valid.ValidConfig.{ValidConfig}
@@ -59,9 +61,13 @@ same_bypass x y v w alike one two =
       allow = map path_view (allow i);
     }
 
-same_bypasses : (xs ys : List Bypass) (vs ws : List ValidBypass) → AllZip BypassesAlike xs ys
-    → AllZip IsBypassOf xs vs → AllZip IsBypassOf ys ws → map bypass_view vs ≡ map bypass_view ws
-same_bypasses [] [] [] [] alike one two = refl
+-- two bypasses are seen alike: they have the same view and the same last day
+abbrev pub BypassesSeen : ValidBypass → ValidBypass → Type 0
+BypassesSeen v w = (bypass_view v ≡ bypass_view w) × (v.expires ≡ w.expires)
+
+pub same_bypasses : (xs ys : List Bypass) (vs ws : List ValidBypass) → AllZip BypassesAlike xs ys
+    → AllZip IsBypassOf xs vs → AllZip IsBypassOf ys ws → AllZip BypassesSeen vs ws
+same_bypasses [] [] [] [] alike one two = tt
 same_bypasses [] [] [] (w ∷ ws) alike one two = absurd two
 same_bypasses [] [] (v ∷ vs) ws alike one two = absurd one
 same_bypasses [] (y ∷ ys) vs ws alike one two = absurd alike
@@ -69,9 +75,20 @@ same_bypasses (x ∷ xs) [] vs ws alike one two = absurd alike
 same_bypasses (x ∷ xs) (y ∷ ys) [] ws alike one two = absurd one
 same_bypasses (x ∷ xs) (y ∷ ys) (v ∷ vs) [] alike one two = absurd two
 same_bypasses (x ∷ xs) (y ∷ ys) (v ∷ vs) (w ∷ ws) alike one two =
-    let head = same_bypass x y v w alike.0 one.0 two.0 in
-    let tail = same_bypasses xs ys vs ws alike.1 one.1 two.1 in
-    λ i. head i ∷ tail i
+    let last_day = one.0.expires ∙ ap (λ k. k.expires) alike.0.1 ∙ sym two.0.expires in
+    ((same_bypass x y v w alike.0 one.0 two.0, last_day), same_bypasses xs ys vs ws alike.1 one.1 two.1)
+
+same_counting : (today : Option Day) → Same BypassesSeen (λ b. counts today b.expires) (λ b. counts today b.expires)
+same_counting today v w seen = ap (counts today) seen.1
+
+-- the bypasses that count on a day
+counting_seen : (today : Option Day) (vs ws : List ValidBypass) → AllZip BypassesSeen vs ws
+    → map bypass_view (filter (λ b. counts today b.expires) vs)
+    ≡ map bypass_view (filter (λ b. counts today b.expires) ws)
+counting_seen today vs ws seen =
+    same_map BypassesSeen bypass_view bypass_view (λ v w same. same.0) (filter (λ b. counts today b.expires) vs)
+    (filter (λ b. counts today b.expires) ws)
+    (alike_filter BypassesSeen (λ b. counts today b.expires) (same_counting today) vs ws seen)
 
 specs_seen : (xs ys : List PackageSpec) → AllZip SpecsAlike xs ys → map spec_view xs ≡ map spec_view ys
 specs_seen xs ys alike = same_map SpecsAlike spec_view spec_view (λ x y same. same) xs ys alike
@@ -88,9 +105,11 @@ same_patterns a b number older key v w alike one two =
     (subst (λ patterns. AreGlobsOf extension_text patterns v.script_extensions.patterns v.script_extensions.set) wanted
     one.script_extensions) two.script_extensions
 
-same_build : (a b : BuildConfig) (number : ℕ) (older key : Option Span) (v w : ValidBuildConfig) → BuildsAlike a b
-    → older ≡ key → IsBuildOf a number older v → IsBuildOf b number key w → building_view v ≡ building_view w
-same_build a b number older key v w alike same one two =
+same_build : (today : Option Day) (a b : BuildConfig) (number : ℕ) (older key : Option Span)
+    (v w : ValidBuildConfig) → BuildsAlike a b
+    → older ≡ key → IsBuildOf a number older v → IsBuildOf b number key w
+    → building_view (current_build today v) ≡ building_view (current_build today w)
+same_build today a b number older key v w alike same one two =
     let scripts =
     ap (option_map (map spec_view)) one.allow_build_scripts
     ∙ same_option (AllZip SpecsAlike) (map spec_view) specs_seen a.allow_build_scripts b.allow_build_scripts
@@ -100,8 +119,9 @@ same_build a b number older key v w alike same one two =
     let interpreted = one.interpreted ∙ alike.interpreted ∙ sym two.interpreted in
     let patterns = same_patterns a b number older key v w alike one two in
     let bypass =
-    same_bypasses (listed a.bypass) (listed b.bypass) v.bypass w.bypass
-    (listed_alike BypassesAlike a.bypass b.bypass alike.bypass) one.bypass two.bypass in
+    counting_seen today v.bypass w.bypass
+    (same_bypasses (listed a.bypass) (listed b.bypass) v.bypass w.bypass
+    (listed_alike BypassesAlike a.bypass b.bypass alike.bypass) one.bypass two.bypass) in
     let dependencies = one.include_dependencies ∙ alike.with_dependencies ∙ sym two.include_dependencies in
     let workspace = one.include_workspace ∙ alike.with_workspace ∙ sym two.include_workspace in
     let archives = one.include_archives ∙ alike.with_archives ∙ sym two.include_archives in
@@ -125,18 +145,20 @@ same_file a b number older key v w alike one two =
     ∙ sym (globs_file_of b number key w two)
 
 module _ (number : ℕ) (older key : Option Span) where
-  same_builds : (a b : Option BuildConfig) (v w : Option ValidBuildConfig) → BothAlike BuildsAlike a b → older ≡ key
+  same_builds : (today : Option Day) (a b : Option BuildConfig) (v w : Option ValidBuildConfig)
+      → BothAlike BuildsAlike a b → older ≡ key
       → OfBoth (λ build. IsBuildOf build number older) a v → OfBoth (λ build. IsBuildOf build number key) b w
-      → option_map building_view v ≡ option_map building_view w
-  same_builds None None None None alike same one two = refl
-  same_builds None None None (Some w) alike same one two = absurd two
-  same_builds None None (Some v) w alike same one two = absurd one
-  same_builds None (Some b) v w alike same one two = absurd alike
-  same_builds (Some a) None v w alike same one two = absurd alike
-  same_builds (Some a) (Some b) None w alike same one two = absurd one
-  same_builds (Some a) (Some b) (Some v) None alike same one two = absurd two
-  same_builds (Some a) (Some b) (Some v) (Some w) alike same one two =
-      ap Some (same_build a b number older key v w alike same one two)
+      → option_map building_view (option_map (current_build today) v)
+      ≡ option_map building_view (option_map (current_build today) w)
+  same_builds today None None None None alike same one two = refl
+  same_builds today None None None (Some w) alike same one two = absurd two
+  same_builds today None None (Some v) w alike same one two = absurd one
+  same_builds today None (Some b) v w alike same one two = absurd alike
+  same_builds today (Some a) None v w alike same one two = absurd alike
+  same_builds today (Some a) (Some b) None w alike same one two = absurd one
+  same_builds today (Some a) (Some b) (Some v) None alike same one two = absurd two
+  same_builds today (Some a) (Some b) (Some v) (Some w) alike same one two =
+      ap Some (same_build today a b number older key v w alike same one two)
 
   same_files : (a b : Option BuildConfig) (v w : Option ValidBuildConfig) → BothAlike BuildsAlike a b
       → OfBoth (λ build. IsBuildOf build number older) a v → OfBoth (λ build. IsBuildOf build number key) b w
@@ -160,10 +182,12 @@ module _ (a b : Config) (alike : BuiltAlike a b) where
   same_older_key =
       older_keys_by a.build b.build a.allow_build_scripts b.allow_build_scripts alike.build alike.scripts
 
-  pub same_building : (file number : ℕ) (these those : ValidConfig) → IsValidOf a file number these
-      → IsValidOf b file number those → building_of these ≡ building_of those
-  same_building file number these those one two =
-      same_builds number (older_key_of a) (older_key_of b) (build_of a) (build_of b) these.build those.build builds
+  pub same_building : (today : Option Day) (file number : ℕ) (these those : ValidConfig)
+      → IsValidOf a file number these → IsValidOf b file number those
+      → building_of (current_bans today these) ≡ building_of (current_bans today those)
+  unfolding current_bans
+  same_building today file number these those one two =
+      same_builds number (older_key_of a) (older_key_of b) today (build_of a) (build_of b) these.build those.build builds
       same_older_key one.build two.build
 
   pub same_builtin_file : (file number : ℕ) (these those : ValidConfig) → IsValidOf a file number these

@@ -20,12 +20,14 @@ use Rattle.deny_cfg_build.specs.Globs.{OfBoth}
 use Rattle.deny_cfg_build.specs.declared.pattern.GlobPattern.{GlobPattern}
 use Rattle.deny_cfg_build.specs.declared.pattern.GlobPattern.TheVariants.{Builtin, User}
 use Rattle.deny_cfg_build.specs.declared.valid.ValidBuildConfig.{ValidBuildConfig}
+use Rattle.deny_cfg_entries.specs.declared.day.Day.{Day}
 use Rattle.deny_cfg_entries.specs.declared.package_spec.PackageSpec.{PackageSpec}
 use Rattle.deny_spec.specs.Policy.{SpannedText}
 use Rattle.deny_cfg_tables.specs.declared.bans.cfg.build.BuildConfig.{BuildConfig}
 use Rattle.deny_cfg_tables.specs.declared.bans.cfg.config.Config.{Config}
 use Rattle.deny_toml.specs.Spans.{IsSpan}
 use Rattle.deny_cfg.proofs.Among.{lie_rest}
+use Rattle.deny_cfg.proofs.CurrentLaws.{current_file, current_globs_read}
 use Rattle.deny_cfg.proofs.LabelLaws.{Lie}
 use Rattle.deny_cfg.specs.LabelSpans.{older_span, of_some, own_span}
 use Rattle.deny_cfg.specs.Marks.{IsPolicySpan}
@@ -70,10 +72,11 @@ next_of number older (Some build) (Some valid) is =
     (next_if build.enable_builtin_globs number)
 
 -- it is the file behind that of the policy
-pub next_file : (text : List ℕ) (file : ℕ) (policy : Policy) → IsPolicyOf text file policy
-    → IfSome (builtin_file_of policy.bans) (λ n. n ≡ file + 1)
-next_file text file policy is =
-    next_of (file + 1) (older_key_of is.config) (build_of is.config) policy.bans.build is.valid.build
+pub next_file : (today : Option Day) (text : List ℕ) (file : ℕ) (policy : Policy)
+    → IsPolicyOf today text file policy → IfSome (builtin_file_of policy.bans) (λ n. n ≡ file + 1)
+next_file today text file policy is =
+    subst (λ o. IfSome o (λ n. n ≡ file + 1)) (sym (current_file today is.written policy.bans is.current.bans))
+    (next_of (file + 1) (older_key_of is.config) (build_of is.config) is.written.build is.valid.build)
 
 -- ---- the globs
 
@@ -89,9 +92,11 @@ read_of number older (Some build) (Some valid) is = record {
   made = is;
 }
 
-pub globs_read : (text : List ℕ) (file : ℕ) (policy : Policy) → IsPolicyOf text file policy → AreGlobsRead policy.bans
-globs_read text file policy is =
-    read_of (file + 1) (older_key_of is.config) (build_of is.config) policy.bans.build is.valid.build
+pub globs_read : (today : Option Day) (text : List ℕ) (file : ℕ) (policy : Policy)
+    → IsPolicyOf today text file policy → AreGlobsRead policy.bans
+globs_read today text file policy is =
+    current_globs_read today is.written policy.bans is.current.bans
+    (read_of (file + 1) (older_key_of is.config) (build_of is.config) is.written.build is.valid.build)
 
 -- the built-in globs are in their file
 abbrev pub IsLocated : GlobPattern → Type 0

@@ -5,6 +5,7 @@ use Rattle.std.specs.List.{flat_map}
 use Rattle.std.proofs.lemmas.List.{get_or-map, length-map}
 use Rattle.std.proofs.lemmas.List.Elements.{All-from_recursion}
 use Rattle.deny_base.specs.declared.span.Span.{Span}
+use Rattle.deny_base_lists.proofs.Each.{all_weaker}
 use Rattle.deny_base.specs.declared.span.Spanned.{Spanned}
 use Rattle.deny_spec.specs.Policy.{SpannedText}
 use Rattle.deny_toml.proofs.ApartLaws.{starts_of_entries}
@@ -17,14 +18,14 @@ use Rattle.deny_toml.specs.Spans.{OccursIn}
 use Rattle.deny_toml.specs.Value.{entries_in}
 use Rattle.deny_toml.specs.value.Table.{Table}
 use Rattle.deny_toml.specs.value.Value.{Value}
-use Rattle.deny_cfg_entries.specs.Apart.{reason_entry-apart}
+use Rattle.deny_cfg_entries.specs.Apart.{reason_entry-apart, waiver_entry-apart}
 use Rattle.deny_cfg_tables.specs.Apart.{ban_entry-apart, feature_entry-apart, tree_skip_entry-apart}
 use Rattle.deny_cfg_entries.specs.Reasons.{ReadsReason, ReadsReasonKey, ReadsReasoned, reason_fields}
 use Rattle.deny_cfg_tables.specs.Bans.{ReadsBan, ReadsBanEntry, ReadsTreeSkip, ReadsTreeSkipEntry, ban_fields}
 use Rattle.deny_cfg_tables.specs.Bans.{tree_skip_fields}
 use Rattle.deny_cfg_tables.specs.Build.{ReadsBuild}
 use Rattle.deny_cfg_tables.specs.Config.{ReadsConfig}
-use Rattle.deny_cfg_entries.specs.Depends.{reason-depends}
+use Rattle.deny_cfg_entries.specs.Depends.{reason-depends, waiver-depends}
 use Rattle.deny_cfg_tables.specs.Depends.{ban-depends, features-depend, tree_skip-depends}
 use Rattle.deny_cfg_entries.specs.Entry.{ReadsEntryKeys, ReadsSome}
 use Rattle.deny_cfg_tables.specs.Features.{ReadsCrateFeatures, ReadsFeatures, feature_fields, lists_in, nowhere}
@@ -32,13 +33,14 @@ use Rattle.deny_cfg.specs.LabelSpans.{AreLabels, joined}
 use Rattle.deny_cfg.specs.Marks.{IsMarkIn, IsPolicySpan}
 use Rattle.deny_cfg.specs.private.LabelSpans.{config_labels, crate_ban_spans, crate_feature_spans}
 use Rattle.deny_cfg.specs.LabelSpans.{of_some, own_span, reason_span, root_spans, std_spans, with_spec}
-use Rattle.deny_cfg.specs.LabelSpans.{word_spans}
+use Rattle.deny_cfg.specs.LabelSpans.{waiver_spans, word_spans}
 use Rattle.deny_cfg.specs.private.LabelSpans.{written_build_spans}
 use Rattle.deny_cfg_entries.proofs.KeyLaws.{says_of}
 use Rattle.deny_cfg_entries.specs.PolicyKey.{name_of}
 use Rattle.deny_cfg.specs.PolicyText.{ReadsBans, bans_name}
 use Rattle.deny_cfg_tables.specs.StdReplacements.{ReadsStd}
 use Rattle.deny_cfg_entries.specs.Table.{Entries, Field, ReadsTable, at_key}
+use Rattle.deny_cfg_entries.specs.Waivers.{ReadsExpiry, ReadsWaived, ReadsWaiver, waiver_fields}
 use Rattle.deny_cfg_entries.specs.Words.{ReadsAs, ReadsBool, ReadsList, ReadsSpanned, ReadsText, ReadsTexts, level_of}
 use Rattle.deny_cfg_tables.specs.declared.bans.cfg.ban.CrateBanExtended.{CrateBanExtended}
 use Rattle.deny_cfg_tables.specs.declared.bans.cfg.config.Config.{Config}
@@ -48,13 +50,13 @@ use Rattle.deny_cfg_tables.specs.declared.bans.cfg.tree_skip.TreeSkipExtended.{T
 use Rattle.deny_cfg_entries.specs.declared.policy_key.PolicyKey.TheVariants as key
 use Rattle.deny_cfg_entries.specs.declared.reason.Reason.{Reason}
 use Rattle.deny_cfg_entries.specs.declared.spec_or_extended.PackageSpecOrExtended.{PackageSpecOrExtended}
-use Rattle.deny_base_lists.proofs.Each.{all_weaker}
+use Rattle.deny_cfg_entries.specs.declared.waiver.Waiver.{Waiver}
 use Rattle.deny_cfg.proofs.BuildLabels.{build_within}
 use Rattle.deny_cfg.proofs.MarkLaws.{mark_lies}
 use Rattle.deny_cfg.proofs.LabelLaws.{◌▸◌, IsMarkAt, Lie, Within, WithinKey, WithinKeys, key_at, keys_within}
 use Rattle.deny_cfg.proofs.LabelLaws.{list_within, name_inside, no_keys, no_more, nothing_below, one_key}
 use Rattle.deny_cfg.proofs.LabelLaws.{optional_within, or_within, starts, table_within}
-use Rattle.deny_cfg.proofs.LabelReads.{entry_keys_within, entry_within, flag_within, meaning_within, reason_within}
+use Rattle.deny_cfg.proofs.LabelReads.{day_within, entry_keys_within, entry_within, flag_within, meaning_within, reason_within}
 use Rattle.deny_cfg.proofs.LabelReads.{word_within, words_within}
 
 wrappers_within : (v : Value) (wrappers : Spanned (List SpannedText))
@@ -102,10 +104,33 @@ reasoned_within v e reads =
     entry_within reason_fields reason_entry-apart reason_span ReadsReasonKey reason-depends
     reason_key_within v e.spec e.inner reads
 
+waiver_within : (entries : Entries) (waiver : Waiver) → ReadsWaiver entries waiver
+    → WithinKeys entries (waiver_spans waiver)
+unfolding name_of
+waiver_within entries waiver reads =
+    keys_within entries (
+    optional_within reason_span ReadsReason reason_within (at_key key.Reason entries) waiver.reason
+    (says_of key.Reason reads)
+    ▸ optional_within own_span (ReadsSpanned ReadsExpiry) day_within (at_key key.Expires entries)
+    waiver.expires (says_of key.Expires reads)
+    ▸ no_more) refl
+
+waived_within : (v : Value) (e : PackageSpecOrExtended Waiver) → ReadsWaived v e
+    → Within v (with_spec waiver_spans e)
+waived_within v e reads =
+    entry_within waiver_fields waiver_entry-apart waiver_spans (ReadsSome waiver_fields ReadsWaiver)
+    waiver-depends (some_within waiver_spans waiver_fields ReadsWaiver waiver_within) v e.spec e.inner reads
+
 root_within : (entries : Entries) (skip : TreeSkipExtended) → ReadsTreeSkip entries skip
     → WithinKeys entries (root_spans skip)
 unfolding name_of
-root_within entries skip reads = reason_key_within entries skip.reason (says_of key.Reason reads)
+root_within entries skip reads =
+    keys_within entries (
+    optional_within reason_span ReadsReason reason_within (at_key key.Reason entries) skip.reason
+    (says_of key.Reason reads)
+    ▸ optional_within own_span (ReadsSpanned ReadsExpiry) day_within (at_key key.Expires entries) skip.expires
+    (says_of key.Expires reads)
+    ▸ no_more) refl
 
 root_entry_within : (v : Value) (e : PackageSpecOrExtended TreeSkipExtended) → ReadsTreeSkipEntry v e
     → Within v (with_spec root_spans e)
@@ -143,8 +168,8 @@ unfolding name_of
 std_within v std reads =
     table_within (std_spans std) ReadsStd std
     (λ entries keys. one_key (name_of key.Ignore) entries (std_spans std)
-    (or_within (flat_map (with_spec reason_span)) [] (ReadsList ReadsReasoned) refl
-    (list_within (with_spec reason_span) ReadsReasoned reasoned_within) (at_key key.Ignore entries)
+    (or_within (flat_map (with_spec waiver_spans)) [] (ReadsList ReadsWaived) refl
+    (list_within (with_spec waiver_spans) ReadsWaived waived_within) (at_key key.Ignore entries)
     std.ignore (says_of key.Ignore keys)))
     v reads
 
@@ -153,6 +178,7 @@ config_within : (entries : Entries) (config : Config) → ReadsConfig entries co
 unfolding name_of config_labels
 config_within entries config reads =
     let reasoned = list_within (with_spec reason_span) ReadsReasoned reasoned_within in
+    let waived = list_within (with_spec waiver_spans) ReadsWaived waived_within in
     let level = optional_within own_span (ReadsSpanned (ReadsAs level_of)) (meaning_within level_of) in
     keys_within entries (
     or_within (flat_map (with_spec crate_ban_spans)) [] (ReadsList ReadsBanEntry) refl
@@ -167,7 +193,7 @@ config_within entries config reads =
     ▸ or_within (flat_map crate_feature_spans) [] (ReadsList ReadsCrateFeatures) refl
     (list_within crate_feature_spans ReadsCrateFeatures feature_entry_within)
     (at_key key.Features entries) config.features (says_of key.Features reads)
-    ▸ or_within (flat_map (with_spec reason_span)) [] (ReadsList ReadsReasoned) refl reasoned
+    ▸ or_within (flat_map (with_spec waiver_spans)) [] (ReadsList ReadsWaived) refl waived
     (at_key key.Skip entries) config.skip (says_of key.Skip reads)
     ▸ or_within (flat_map (with_spec root_spans)) [] (ReadsList ReadsTreeSkipEntry) refl
     (list_within (with_spec root_spans) ReadsTreeSkipEntry root_entry_within)

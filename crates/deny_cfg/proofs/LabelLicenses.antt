@@ -14,20 +14,21 @@ use Rattle.deny_cfg_entries.specs.Entry.{ReadsEntryKeys}
 use Rattle.deny_cfg_entries.specs.Licence.{ReadsLicences}
 use Rattle.deny_cfg_entries.specs.PolicyKey.{name_of}
 use Rattle.deny_cfg_entries.specs.Table.{Entries, ReadsTable, at_key}
+use Rattle.deny_cfg_entries.specs.Waivers.{ReadsExpiry}
 use Rattle.deny_cfg_entries.specs.Words.{ReadsAs, ReadsList, ReadsSpanned}
 use Rattle.deny_cfg_entries.specs.declared.policy_key.PolicyKey.TheVariants as key
 use Rattle.deny_cfg_entries.proofs.KeyLaws.{says_of}
 use Rattle.deny_cfg_tables.specs.Apart.{exception_entry-apart}
 use Rattle.deny_cfg_tables.specs.Licenses.{ReadsException, ReadsExceptionKeys, ReadsLicenses, exception_fields}
-use Rattle.deny_cfg_tables.specs.Licenses.{exception_keys}
+use Rattle.deny_cfg_tables.specs.Licenses.{exception_keys, exception_keys_in}
 use Rattle.deny_cfg_tables.specs.declared.licenses.config.Config.{Config}
 use Rattle.deny_cfg_tables.specs.declared.licenses.exception.Exception.{Exception}
-use Rattle.deny_cfg.specs.LabelSpans.{AreLabels, exception_span, licence_labels, licence_spans, own_span}
+use Rattle.deny_cfg.specs.LabelSpans.{AreLabels, exception_span, licence_labels, licence_spans, of_some, own_span}
 use Rattle.deny_cfg.specs.PolicyText.{ReadsLicensing, licenses_name}
 use Rattle.deny_cfg.proofs.LabelConfig.{key_are_labels}
-use Rattle.deny_cfg.proofs.LabelLaws.{◌▸◌, Within, WithinKey, WithinKeys, keys_within, list_within, no_keys, no_more}
-use Rattle.deny_cfg.proofs.LabelLaws.{optional_within, or_within, table_within}
-use Rattle.deny_cfg.proofs.LabelReads.{entry_keys_within, meaning_within}
+use Rattle.deny_cfg.proofs.LabelLaws.{◌▸◌, Within, WithinKey, WithinKeys, keys_within, list_within, no_more}
+use Rattle.deny_cfg.proofs.LabelLaws.{one_key, optional_within, or_within, table_within}
+use Rattle.deny_cfg.proofs.LabelReads.{day_within, entry_keys_within, meaning_within}
 
 licences_within : (v : Value) (licences : List (Spanned Requirement)) → ReadsLicences v licences
     → Within v (flat_map own_span licences)
@@ -35,13 +36,21 @@ licences_within v licences reads =
     list_within own_span (ReadsSpanned (ReadsAs requirement_in)) (meaning_within requirement_in) v licences
     reads
 
+last_day_within : (e : Exception) (entries : Entries)
+    → ReadsExceptionKeys entries (exception_keys_in e) → WithinKeys entries (of_some own_span e.expires)
+unfolding name_of
+last_day_within e entries reads =
+    one_key (name_of key.Expires) entries (of_some own_span e.expires)
+    (optional_within own_span (ReadsSpanned ReadsExpiry) day_within (at_key key.Expires entries) e.expires
+    (says_of key.Expires reads))
+
 exception_within : (v : Value) (e : Exception) → ReadsException v e → Within v (exception_span e)
 exception_within v e reads =
     table_within (exception_span e)
-    (λ entries (read : Exception). ReadsEntryKeys ReadsExceptionKeys entries read.spec (record { allow = read.allow }))
+    (λ entries (read : Exception). ReadsEntryKeys ReadsExceptionKeys entries read.spec (exception_keys_in read))
     e
-    (entry_keys_within exception_fields exception_entry-apart ReadsExceptionKeys (keys-depend exception_keys) []
-    e.spec (record { allow = e.allow }) (λ entries said. no_keys entries)) v reads
+    (entry_keys_within exception_fields exception_entry-apart ReadsExceptionKeys (keys-depend exception_keys)
+    (of_some own_span e.expires) e.spec (exception_keys_in e) (last_day_within e)) v reads
 
 licenses_within : (entries : Entries) (config : Config) → ReadsLicenses entries config
     → WithinKeys entries (licence_labels config)

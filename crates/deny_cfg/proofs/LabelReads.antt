@@ -8,7 +8,7 @@ use Rattle.deny_spec.specs.Policy.{SpannedText}
 use Rattle.deny_toml.proofs.ApartLaws.{starts_by_layer, starts_of_layer}
 use Rattle.deny_toml.proofs.ApartParts.{IsPartOf, part_itself, starts_of_text}
 use Rattle.deny_toml.specs.Apart.{starts_in}
-use Rattle.deny_toml.specs.Calls.{Layer, bool_of, is_verbatim, layer_in, scalar_of, text_in, text_of}
+use Rattle.deny_toml.specs.Calls.{Layer, bool_of, date_of, is_verbatim, layer_in, scalar_of, text_in, text_of}
 use Rattle.deny_toml.specs.Calls.{without}
 use Rattle.deny_toml.specs.Value.{span_in, span_of}
 use Rattle.deny_toml.specs.value.Content.TheOpen.{Content-F}
@@ -21,9 +21,11 @@ use Rattle.deny_cfg.specs.Marks.IsValueIn.{itself}
 use Rattle.deny_cfg_entries.proofs.KeyLaws.{says_of}
 use Rattle.deny_cfg_entries.specs.PolicyKey.{name_of}
 use Rattle.deny_cfg_entries.specs.Spec.{ReadsName, ReadsSpecBy, ReadsSpecKeys, ReadsSpecOf, ReadsSpecText, crate_fields}
-use Rattle.deny_cfg_entries.specs.Spec.{name_fields, name_in, spec_fields}
+use Rattle.deny_cfg_entries.specs.Spec.{name_fields, name_in, or_else, spec_fields}
 use Rattle.deny_cfg_entries.specs.Table.{DependsOn, Entries, Field, ReadsThere, are_apart, at_key}
+use Rattle.deny_cfg_entries.specs.Waivers.{ReadsExpiry}
 use Rattle.deny_cfg_entries.specs.Words.{ReadsAs, ReadsBool, ReadsSpanned, ReadsText, ReadsTexts}
+use Rattle.deny_cfg_entries.specs.declared.expiry.Expiry.{Expiry}
 use Rattle.deny_cfg_entries.specs.declared.package_spec.PackageSpec.{PackageSpec}
 use Rattle.deny_cfg_entries.specs.declared.policy_key.PolicyKey.TheVariants as key
 use Rattle.deny_cfg_entries.specs.declared.reason.Reason.{Reason}
@@ -90,6 +92,18 @@ words_within v words reads = list_within own_span (ReadsSpanned ReadsText) word_
 pub reason_within : (v : Value) (reason : Reason) → ReadsReason v reason
     → Within v (reason_span reason)
 reason_within v reason reads = word_within v reason.0 reads
+
+-- a value with a text, be it a string or a date, is a scalar
+dated_there : (o : Option Scalar) (t : List ℕ)
+    → or_else (option_and_then text_of o) (option_and_then date_of o) ≡ Some t → (s : Scalar) × (o ≡ Some s)
+dated_there None t e = cc
+dated_there (Some s) t e = (s, refl)
+
+pub day_within : (v : Value) (day : Spanned Expiry) → ReadsSpanned ReadsExpiry v day
+    → Within v (own_span day)
+day_within v day reads =
+    let there = dated_there (scalar_of (layer_in v)) day.value.written reads.1.0 in
+    own_within v day there.0 reads.0 there.1
 
 -- ---- specs and entries
 

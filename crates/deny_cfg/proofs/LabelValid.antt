@@ -17,7 +17,8 @@ use Rattle.deny_cfg.specs.private.LabelSpans.{config_labels, crate_ban_spans}
 use Rattle.deny_cfg.specs.LabelSpans.{of_some, own_span, reason_span}
 use Rattle.deny_cfg.specs.private.LabelSpans.{crate_feature_spans}
 use Rattle.deny_cfg.specs.LabelSpans.{features_spans}
-use Rattle.deny_cfg.specs.LabelSpans.{root_spans, spec_span, std_spans, with_spec, word_labels, word_spans}
+use Rattle.deny_cfg.specs.LabelSpans.{root_spans, spec_span, std_spans, waiver_spans, with_spec, word_labels}
+use Rattle.deny_cfg.specs.LabelSpans.{word_spans}
 use Rattle.deny_cfg.specs.private.LabelSpans.{written_build_spans}
 use Rattle.deny_cfg.specs.Valid.{IsValidOf, ban_of, features_of, is_multiple, krate_ban, older_key_of}
 use Rattle.deny_cfg_tables.specs.declared.bans.cfg.ban.CrateBanExtended.{CrateBanExtended}
@@ -130,11 +131,11 @@ valid_among config file number valid is =
     ((flat_map (with_spec ban_spans) valid.denied ++ flat_map spec_span valid.denied_multiple_versions)
     ∷ flat_map (with_spec reason_span) valid.allowed ∷ of_some own_span valid.external_default_features
     ∷ of_some own_span valid.workspace_default_features ∷ flat_map features_spans valid.features
-    ∷ flat_map (with_spec reason_span) valid.skipped ∷ flat_map (with_spec root_spans) valid.tree_skipped
+    ∷ flat_map (with_spec waiver_spans) valid.skipped ∷ flat_map (with_spec root_spans) valid.tree_skipped
     ∷ of_some std_spans valid.std_replacements ∷ of_some build_spans valid.build ∷ [])
     (flat_map (with_spec crate_ban_spans) config.deny ∷ flat_map (with_spec reason_span) config.allow
     ∷ of_some own_span config.external_default_features ∷ of_some own_span config.workspace_default_features
-    ∷ flat_map crate_feature_spans config.features ∷ flat_map (with_spec reason_span) config.skip
+    ∷ flat_map crate_feature_spans config.features ∷ flat_map (with_spec waiver_spans) config.skip
     ∷ flat_map (with_spec root_spans) config.skip_tree ∷ of_some std_spans config.std_replacements
     ∷ of_some written_build_spans config.build ∷ []) (
       among_then _ (banned config.deny ++ several config.deny) _
@@ -158,8 +159,8 @@ valid_among config file number valid is =
               among_same (flat_map features_spans valid.features) (flat_map crate_feature_spans config.features)
                   (ap (flat_map features_spans) is.features ∙ features_same config.features),
               (
-                among_same (flat_map (with_spec reason_span) valid.skipped)
-                    (flat_map (with_spec reason_span) config.skip) (ap (flat_map (with_spec reason_span)) is.skipped),
+                among_same (flat_map (with_spec waiver_spans) valid.skipped)
+                    (flat_map (with_spec waiver_spans) config.skip) (ap (flat_map (with_spec waiver_spans)) is.skipped),
                 (
                   among_same (flat_map (with_spec root_spans) valid.tree_skipped)
                       (flat_map (with_spec root_spans) config.skip_tree)

@@ -11,13 +11,14 @@ use Rattle.deny_cfg.specs.LabelSpans.{AreLabels, ban_spans, build_spans, excepti
 use Rattle.deny_cfg.specs.LabelSpans.{features_spans}
 use Rattle.deny_cfg.specs.LabelSpans.{feature_spans_by, licence_labels, licence_spans, of_some, own_span}
 use Rattle.deny_cfg.specs.LabelSpans.{reason_span, root_spans, spec_span, std_spans, std_spans_by, with_spec}
-use Rattle.deny_cfg.specs.LabelSpans.{word_labels, word_spans}
+use Rattle.deny_cfg.specs.LabelSpans.{waiver_spans, word_labels, word_spans}
 use Rattle.deny_cfg.specs.Lawful.{IsLawful, IsLawfulLicensing, entry_spans, no_span, wrapper_spans}
 use Rattle.deny_cfg.specs.declared.bans.cfg.valid.KrateBan.{KrateBan}
 use Rattle.deny_cfg.specs.declared.bans.cfg.valid.ValidConfig.{ValidConfig}
 use Rattle.deny_cfg.specs.declared.bans.cfg.valid.ValidKrateFeatures.{ValidKrateFeatures}
 use Rattle.deny_cfg_entries.specs.declared.reason.Reason.{Reason}
 use Rattle.deny_cfg_entries.specs.declared.spec_or_extended.PackageSpecOrExtended.{PackageSpecOrExtended}
+use Rattle.deny_cfg_entries.specs.declared.waiver.Waiver.{Waiver}
 use Rattle.deny_cfg.proofs.Among.{Among, among_both, among_itself, among_joined, among_rest, lie_prefix, times_both}
 use Rattle.deny_cfg.proofs.LabelValid.{labels_among}
 
@@ -70,6 +71,12 @@ reasons_among =
     among_flat (with_spec no_span) (with_spec reason_span)
     (among_entry no_span reason_span (none_among reason_span))
 
+waivers_among : (es : List (PackageSpecOrExtended Waiver))
+    → Among (flat_map (with_spec no_span) es) (flat_map (with_spec waiver_spans) es)
+waivers_among =
+    among_flat (with_spec no_span) (with_spec waiver_spans)
+    (among_entry no_span waiver_spans (none_among waiver_spans))
+
 entries_among : (valid : ValidConfig) → Among (entry_spans valid) (word_labels valid)
 unfolding entry_spans word_labels
 entries_among valid =
@@ -84,7 +91,7 @@ entries_among valid =
     ((flat_map (with_spec ban_spans) valid.denied ++ several) ∷ flat_map (with_spec reason_span) valid.allowed
     ∷ of_some own_span valid.external_default_features
     ∷ of_some own_span valid.workspace_default_features ∷ flat_map features_spans valid.features
-    ∷ flat_map (with_spec reason_span) valid.skipped ∷ flat_map (with_spec root_spans) valid.tree_skipped
+    ∷ flat_map (with_spec waiver_spans) valid.skipped ∷ flat_map (with_spec root_spans) valid.tree_skipped
     ∷ of_some std_spans valid.std_replacements ∷ of_some build_spans valid.build ∷ []) (
       among_both (flat_map (with_spec wrapper_spans) valid.denied) several
           (flat_map (with_spec ban_spans) valid.denied) several
@@ -100,12 +107,12 @@ entries_among valid =
             (
               among_flat (feature_spans_by no_span) features_spans feature_among valid.features,
               (
-                reasons_among valid.skipped,
+                waivers_among valid.skipped,
                 (
                   among_flat (with_spec no_span) (with_spec root_spans)
                       (among_entry no_span root_spans (none_among root_spans)) valid.tree_skipped,
                   (
-                    among_some (std_spans_by no_span) std_spans (λ std. reasons_among std.ignore)
+                    among_some (std_spans_by no_span) std_spans (λ std. waivers_among std.ignore)
                         valid.std_replacements,
                     (among_itself (of_some build_spans valid.build), tt),
                   ),
@@ -132,6 +139,12 @@ one_span_each : {T : Type 0} (span_at : T → Span) (xs : List T) → flat_map (
 one_span_each span_at [] = refl
 one_span_each span_at (x ∷ xs) = ap (λ spans. span_at x ∷ spans) (one_span_each span_at xs)
 
+names_among : (es : List Exception)
+    → Among (flat_map (λ (e : Exception). spec_span e.spec) es) (flat_map exception_span es)
+names_among =
+    among_flat (λ (e : Exception). spec_span e.spec) exception_span
+    (λ e. among_prefix (spec_span e.spec) (of_some own_span e.expires))
+
 lawful_config : (text : List ℕ) (config : Config) → AreLabels text (licence_labels config) → IsLawfulLicensing config
 unfolding licence_labels
 lawful_config text config labels =
@@ -141,6 +154,8 @@ lawful_config text config labels =
     let rest =
     labels_among text (exceptions ++ []) (licence_labels config) (among_rest allow (exceptions ++ [])) labels in
     let second = labels_among text exceptions (exceptions ++ []) (among_prefix exceptions []) rest in
+    let names = flat_map (λ (e : Exception). spec_span e.spec) config.exceptions in
+    let third = labels_among text names exceptions (names_among config.exceptions) second in
     record {
       allow =
           subst (AllPairs (λ one other. one ≢ other))
@@ -148,7 +163,7 @@ lawful_config text config labels =
       exceptions =
           subst (AllPairs (λ one other. one ≢ other))
           (one_span_each (λ (e : Exception). e.spec.name.span) config.exceptions)
-          (distinct_labels text exceptions second);
+          (distinct_labels text names third);
     }
 
 pub lawful_licences : (text : List ℕ) (licensing : Option Config) → AreLabels text (licence_spans licensing)

@@ -17,6 +17,10 @@ pub mod MarkLaws
 pub mod PolicyLaws
 pub mod FirstSpansLaws
 pub mod ClashLaws
+pub mod CurrentLaws
+pub mod ExpiredLaws
+pub mod ExpiredLabels
+mod CurrentRows
 pub mod ViewLaws
 pub mod LicensingLaws
 pub mod RootLaws

@@ -6,7 +6,7 @@ use Rattle.std.proofs.Common.{inr, refl, sym, ap, ◌∙◌, subst, arith}
 use Rattle.std.proofs.lemmas.Bool.{cases_lt}
 use Rattle.std.proofs.lemmas.List.{length-append, take-append-le, take_all}
 use Rattle.std.proofs.Math.Seq.{take-append_seam}
-use Rattle.std.specs.Prelude.{IfErr, IfOk, IsUtf8, OnErr, Result}
+use Rattle.std.specs.Prelude.{IfErr, IfOk, IsUtf8, OnErr, Option, Result}
 use Rattle.deny_base.specs.declared.files.File.{File}
 use Rattle.deny_base.specs.declared.finding.Diagnostic.{Diagnostic}
 use Rattle.deny_base.specs.declared.span.Span.{Span}
@@ -27,8 +27,9 @@ use Rattle.deny_cfg.specs.PolicyText.{ListsFaults, faults_of_tree, globs_files, 
 use Rattle.deny_cfg.specs.PolicyText.AreFaults.{not_utf8, no_toml, of_tree}
 use Rattle.deny_base_lists.specs.Ascending.{Lists}
 use Rattle.deny_base_lists.specs.Prefix.{Gains, GainsPrefix, GainsPrefixOf}
-use Rattle.deny_cfg.specs.Deprecated.{warnings_of}
-use Rattle.deny_cfg.specs.private.Deprecated.{AreReported}
+use Rattle.deny_cfg.specs.Warnings.{warnings_of}
+use Rattle.deny_cfg.specs.private.Warnings.{AreReported}
+use Rattle.deny_cfg_entries.specs.declared.day.Day.{Day}
 use Rattle.deny_cfg_tables.specs.declared.bans.cfg.config.Config.{Config}
 use Rattle.deny_cfg.specs.declared.clash.Clash.{Clash}
 use Rattle.deny_cfg.specs.PolicyView.{builtin_file_of}
@@ -43,27 +44,27 @@ config_weaker P Q (error.Invalid reported) more is = is
 config_weaker P Q error.Memory more is = is
 
 -- a fault that is the only one of its text
-single_listed : (text : List ℕ) (fault : ConfigFault) (faults : List ConfigFault) → AreFaults text (fault ∷ [])
-    → faults ≡ fault ∷ [] → ListsFaults text faults
-single_listed text fault faults are is =
-    subst (ListsFaults text) (sym is) record { are = are; some = λ none. cc; ascending = single_ascends fault }
+single_listed : (today : Option Day) (text : List ℕ) (fault : ConfigFault) (faults : List ConfigFault)
+    → AreFaults today text (fault ∷ []) → faults ≡ fault ∷ [] → ListsFaults today text faults
+single_listed today text fault faults are is =
+    subst (ListsFaults today text) (sym is) record { are = are; some = λ none. cc; ascending = single_ascends fault }
 
-pub toml_listed : (text : List ℕ) (of : TomlKind) (span : Span) (faults : List ConfigFault) → IsUtf8 text
-    → IsFaultOf text of span → IsSpan text span
-    → faults ≡ fault_at (kind_of of) [] span ∷ [] → ListsFaults text faults
-toml_listed text of span faults utf8 fault within is =
-    single_listed text _ faults (no_toml of span utf8 fault within) is
+pub toml_listed : (today : Option Day) (text : List ℕ) (of : TomlKind) (span : Span) (faults : List ConfigFault)
+    → IsUtf8 text → IsFaultOf text of span → IsSpan text span
+    → faults ≡ fault_at (kind_of of) [] span ∷ [] → ListsFaults today text faults
+toml_listed today text of span faults utf8 fault within is =
+    single_listed today text _ faults (no_toml of span utf8 fault within) is
 
-pub utf8_listed : (text : List ℕ) (faults : List ConfigFault) → ¬ IsUtf8 text
-    → faults ≡ fault_at kind.NotUtf8 [] no_span ∷ [] → ListsFaults text faults
-utf8_listed text faults other is = single_listed text _ faults (not_utf8 other) is
+pub utf8_listed : (today : Option Day) (text : List ℕ) (faults : List ConfigFault) → ¬ IsUtf8 text
+    → faults ≡ fault_at kind.NotUtf8 [] no_span ∷ [] → ListsFaults today text faults
+utf8_listed today text faults other is = single_listed today text _ faults (not_utf8 other) is
 
-pub tree_listed : (text : List ℕ) (v : Value) (faults : List ConfigFault) → IsUtf8 text → IsTreeOf text v
-    → Reports (faults_of_tree v) (deser.Faults faults)
-    → ListsFaults text faults
-tree_listed text v faults utf8 tree reported =
-    let these = reports_these (faults_of_tree v) faults reported in
-    subst (ListsFaults text) (sym these.0) record
+pub tree_listed : (today : Option Day) (text : List ℕ) (v : Value) (faults : List ConfigFault) → IsUtf8 text
+    → IsTreeOf text v → Reports (faults_of_tree today v) (deser.Faults faults)
+    → ListsFaults today text faults
+tree_listed today text v faults utf8 tree reported =
+    let these = reports_these (faults_of_tree today v) faults reported in
+    subst (ListsFaults today text) (sym these.0) record
     { are = of_tree v utf8 tree; some = these.1; ascending = these.2 }
 
 nothing_mapped : {A B : Type 0} (f : A → B) (xs : List A) → map f xs ≡ [] → xs ≡ []
@@ -116,24 +117,25 @@ kept_text : (bytes : List ℕ) (old mid : List File) → IsUtf8 bytes → mid �
     → Keeps bytes old mid
 kept_text bytes old mid utf8 put = record { utf8 = λ _. put; other = λ not. absurd (not utf8) }
 
-kept_at : (e : PolicyError) (bytes : List ℕ) (old mid new : List File) → IsUtf8 bytes
-    → mid ≡ old ++ policy_file bytes ∷ [] → AddsOnError e bytes mid new → KeepsOnError e bytes old new
-kept_at (error.Config faults) bytes old mid new utf8 put adds =
+kept_at : (today : Option Day) (e : PolicyError) (bytes : List ℕ) (old mid new : List File) → IsUtf8 bytes
+    → mid ≡ old ++ policy_file bytes ∷ [] → AddsOnError today e bytes mid new → KeepsOnError today e bytes old new
+kept_at today (error.Config faults) bytes old mid new utf8 put adds =
     subst (Keeps bytes old) (sym adds) (kept_text bytes old mid utf8 put)
-kept_at (error.Invalid reported) bytes old mid new utf8 put adds =
-    subst (λ files. AddsFiles bytes files new) put adds
-kept_at error.Memory bytes old mid new utf8 put (inl same) =
+kept_at today (error.Invalid reported) bytes old mid new utf8 put adds =
+    subst (λ files. AddsFiles today bytes files new) put adds
+kept_at today error.Memory bytes old mid new utf8 put (inl same) =
     inr (inl (subst (Keeps bytes old) (sym same) (kept_text bytes old mid utf8 put)))
-kept_at error.Memory bytes old mid new utf8 put (inr adds) =
-    inr (inr (subst (λ files. AddsFiles bytes files new) put adds))
+kept_at today error.Memory bytes old mid new utf8 put (inr adds) =
+    inr (inr (subst (λ files. AddsFiles today bytes files new) put adds))
 
-pub kept_on_error : {T : Type 0} (r : Result T PolicyError) (bytes text : List ℕ) (old mid new : List File)
+pub kept_on_error : {T : Type 0} (today : Option Day) (r : Result T PolicyError) (bytes text : List ℕ)
+    (old mid new : List File)
     → IsUtf8 bytes → text ≡ bytes → mid ≡ old ++ policy_file text ∷ []
-    → IfErr r (λ e. AddsOnError e text mid new) → IfErr r (λ e. KeepsOnError e bytes old new)
-kept_on_error (Ok x) bytes text old mid new utf8 same put adds = tt
-kept_on_error (Err e) bytes text old mid new utf8 same put adds =
-    kept_at e bytes old mid new utf8 (put ∙ ap (λ t. old ++ policy_file t ∷ []) same)
-    (subst (λ t. AddsOnError e t mid new) same adds)
+    → IfErr r (λ e. AddsOnError today e text mid new) → IfErr r (λ e. KeepsOnError today e bytes old new)
+kept_on_error today (Ok x) bytes text old mid new utf8 same put adds = tt
+kept_on_error today (Err e) bytes text old mid new utf8 same put adds =
+    kept_at today e bytes old mid new utf8 (put ∙ ap (λ t. old ++ policy_file t ∷ []) same)
+    (subst (λ t. AddsOnError today e t mid new) same adds)
 
 pub on_error : {T E : Type 0} (r : Result T E) (P : Type 0) → P → OnErr r P
 on_error (Ok x) P is = tt
@@ -143,17 +145,18 @@ pub on_error_more : {T E : Type 0} (r : Result T E) (P Q : Type 0) → (P → Q)
 on_error_more (Ok x) P Q more is = tt
 on_error_more (Err e) P Q more is = more is
 
-pub no_policy_of : (text : List ℕ) (file : ℕ) (e : PolicyError) → IsConfig (ListsFaults text) e → IsNoPolicy text file e
-no_policy_of text file (error.Config faults) is = is
-no_policy_of text file (error.Invalid reported) is = absurd is
-no_policy_of text file error.Memory is = tt
+pub no_policy_of : (today : Option Day) (text : List ℕ) (file : ℕ) (e : PolicyError)
+    → IsConfig (ListsFaults today text) e → IsNoPolicy today text file e
+no_policy_of today text file (error.Config faults) is = is
+no_policy_of today text file (error.Invalid reported) is = absurd is
+no_policy_of today text file error.Memory is = tt
 
 -- nothing is added where the text has faults, or perhaps when out of memory
-pub none_added : (e : PolicyError) (P : List ConfigFault → Type 0) (text : List ℕ) (files : List File) → IsConfig P e
-    → AddsOnError e text files files
-none_added (error.Config faults) P text files is = refl
-none_added (error.Invalid reported) P text files is = absurd is
-none_added error.Memory P text files is = inl refl
+pub none_added : (today : Option Day) (e : PolicyError) (P : List ConfigFault → Type 0) (text : List ℕ)
+    (files : List File) → IsConfig P e → AddsOnError today e text files files
+none_added today (error.Config faults) P text files is = refl
+none_added today (error.Invalid reported) P text files is = absurd is
+none_added today error.Memory P text files is = inl refl
 
 -- the diagnostics of a configuration: its clashes, and then its warnings
 reported_of : (source : List ℕ) (config : Config) (file : ℕ) (clashes : List Clash)

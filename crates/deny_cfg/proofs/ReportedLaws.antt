@@ -30,6 +30,7 @@ use Rattle.deny_cfg.specs.LabelSpans.{AreLabels}
 use Rattle.deny_cfg.specs.Marks.{IsClashSpan, IsMarkIn, IsPolicySpan}
 use Rattle.deny_cfg.specs.private.LabelSpans.{config_labels, crate_ban_spans, crate_feature_spans, list_spans}
 use Rattle.deny_cfg.specs.LabelSpans.{of_some, own_span, reason_span, root_spans, std_spans, reported_spans}
+use Rattle.deny_cfg.specs.LabelSpans.{waiver_spans}
 use Rattle.deny_cfg.specs.LabelSpans.{with_spec, word_spans}
 use Rattle.deny_cfg.specs.private.LabelSpans.{wrapper_list, written_build_spans}
 use Rattle.deny_cfg.specs.PolicyText.{ReadsBans, bans_name}
@@ -48,6 +49,7 @@ use Rattle.deny_cfg.specs.declared.clash.ClashKind.TheVariants as clash
 use Rattle.deny_cfg_entries.specs.declared.package_spec.PackageSpec.{PackageSpec}
 use Rattle.deny_cfg_entries.specs.declared.policy_key.PolicyKey.TheVariants as key
 use Rattle.deny_cfg_entries.specs.declared.reason.Reason.{Reason}
+use Rattle.deny_cfg_entries.specs.declared.waiver.Waiver.{Waiver}
 use Rattle.deny_cfg_entries.specs.declared.spec_or_extended.PackageSpecOrExtended.{PackageSpecOrExtended}
 use Rattle.deny_cfg.proofs.LabelConfig.{key_lies}
 use Rattle.deny_cfg.proofs.LabelLaws.{IsMarkAt, IsMarkBelow, Lie, key_inside, list_inside, nothing_below, own_mark}
@@ -250,7 +252,7 @@ module _ (P : Span → Type 0) where
       let external = of_some own_span config.external_default_features in
       let workspace = of_some own_span config.workspace_default_features in
       let features = flat_map crate_feature_spans config.features in
-      let skip = flat_map (with_spec reason_span) config.skip in
+      let skip = flat_map (with_spec waiver_spans) config.skip in
       let after_deny = lie_rest P deny _ lie in
       let after_allow = lie_rest P allow _ after_deny in
       let after_levels = lie_rest P workspace _ (lie_rest P external _ after_allow) in
@@ -264,8 +266,8 @@ module _ (P : Span → Type 0) where
       all_mapped NameLies (λ (e : PackageSpecOrExtended Reason). e.spec) config.allow
       (names_lie reason_span config.allow (lie_prefix P allow _ after_deny)) in
       let skipped =
-      all_mapped NameLies (λ (e : PackageSpecOrExtended Reason). e.spec) config.skip
-      (names_lie reason_span config.skip (lie_prefix P skip _ after_features)) in
+      all_mapped NameLies (λ (e : PackageSpecOrExtended Waiver). e.spec) config.skip
+      (names_lie waiver_spans config.skip (lie_prefix P skip _ after_features)) in
       all_append (ClashLies P) (filter_map wrappers_clash config.deny) _
       (all_given (λ e. Lie P (with_spec crate_ban_spans e) × Lie P (wrapper_list e)) (ClashLies P)
       wrappers_clash ban_lies config.deny
@@ -294,7 +296,7 @@ module _ (P : Span → Type 0) where
       let external = of_some own_span config.external_default_features in
       let workspace = of_some own_span config.workspace_default_features in
       let features = flat_map crate_feature_spans config.features in
-      let skip = flat_map (with_spec reason_span) config.skip in
+      let skip = flat_map (with_spec waiver_spans) config.skip in
       let trees = flat_map (with_spec root_spans) config.skip_tree in
       let std = of_some std_spans config.std_replacements in
       let after_levels =

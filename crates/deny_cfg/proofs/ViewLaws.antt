@@ -6,10 +6,11 @@ use Rattle.std.specs.List.{AllZip}
 use Rattle.std.specs.Option.{option_eq, option_map_or}
 use Rattle.semver.specs.Identifiers.{parts_of}
 use Rattle.deny_base.specs.declared.span.Span.{Span}
-use Rattle.deny_spec.specs.Policy.{AllowEntry, Ban, Entry, Root, Spec, SpannedText}
+use Rattle.deny_spec.specs.Policy.{AllowEntry, Ban, Entry, Replacing, Root, Spec, SpannedText}
 use Rattle.deny_spec.specs.Text.{same_text}
 use Rattle.deny_cfg.specs.Clashes.{banned_specs, clash_with, clashes_in, feature_at, feature_clash, feature_clashes}
 use Rattle.deny_cfg.specs.Clashes.{is_ban, specs_of, two_spans, wrappers_clash, wrappers_clash_by}
+use Rattle.deny_cfg.specs.Current.{counts, current_bans, current_std, root_expires, skip_expires}
 use Rattle.deny_cfg.specs.PolicyView.{allow_view, ban_view, entry_view, feature_view, policy_view, reason_words}
 use Rattle.deny_cfg.specs.PolicyView.{replacing_view}
 use Rattle.deny_cfg.specs.PolicyView.{root_view, roots_from, scope_view, sharing_view, words_or_none}
@@ -19,6 +20,7 @@ use Rattle.deny_cfg.specs.Valid.{IsValidOf, ban_of, features_of, is_multiple, kr
 use Rattle.deny_cfg_tables.specs.declared.bans.cfg.ban.CrateBanExtended.{CrateBanExtended}
 use Rattle.deny_cfg_tables.specs.declared.bans.cfg.config.Config.{Config}
 use Rattle.deny_cfg_tables.specs.declared.bans.cfg.features.CrateFeatures.{CrateFeatures}
+use Rattle.deny_cfg_tables.specs.declared.bans.cfg.std_replacements.StdReplacementConfig.{StdReplacementConfig}
 use Rattle.deny_cfg_tables.specs.declared.bans.cfg.tree_skip.TreeSkipExtended.{TreeSkipExtended}
 use Rattle.deny_cfg.specs.declared.bans.cfg.valid.KrateBan.{KrateBan}
 use Rattle.deny_cfg.specs.declared.bans.cfg.valid.ValidConfig.{ValidConfig}
@@ -26,9 +28,11 @@ use Rattle.deny_cfg.specs.declared.bans.cfg.valid.ValidKrateFeatures.{ValidKrate
 use Rattle.deny_cfg.specs.declared.clash.Clash.{Clash}
 use Rattle.deny_cfg.specs.declared.clash.ClashKind.{ClashKind}
 use Rattle.deny_cfg.specs.declared.clash.ClashKind.TheVariants as clash
+use Rattle.deny_cfg_entries.specs.declared.day.Day.{Day}
 use Rattle.deny_cfg_entries.specs.declared.package_spec.PackageSpec.{PackageSpec}
 use Rattle.deny_cfg_entries.specs.declared.reason.Reason.{Reason}
 use Rattle.deny_cfg_entries.specs.declared.spec_or_extended.PackageSpecOrExtended.{PackageSpecOrExtended}
+use Rattle.deny_cfg_entries.specs.declared.waiver.Waiver.{Waiver}
 use Rattle.deny_cfg_tables.proofs.ConfigLaws.{BothAlike, ConfigsAlike, EntriesAlike, FeaturesAlike, StdAlike}
 use Rattle.deny_cfg_tables.proofs.ConfigLaws.{VersionsAlike}
 use Rattle.deny_base_lists.proofs.Alike.{Same, alike_filter, alike_map, same_filter_map, same_find, same_flat_map}
@@ -144,12 +148,24 @@ same_allow : Same EntriesAlike allow_view allow_view
 unfolding allow_seen
 same_allow a b alike = λ i. allow_seen (alike.0 i) (alike.1 i)
 
-entry_seen : Spec → Option Reason → Entry
-entry_seen spec inner = record { spec = spec; reason = option_map reason_words inner }
+entry_seen : Spec → Option Waiver → Entry
+entry_seen spec inner =
+    record { spec = spec; reason = option_map reason_words (option_and_then (λ waiver. waiver.reason) inner) }
 
 same_entry : Same EntriesAlike entry_view entry_view
 unfolding entry_seen
 same_entry a b alike = λ i. entry_seen (alike.0 i) (alike.1 i)
+
+-- both entries count on a day, or neither does
+pub same_skip_counts : (today : Option Day)
+    → Same EntriesAlike (λ e. counts today (skip_expires e)) (λ e. counts today (skip_expires e))
+same_skip_counts today a b alike =
+    ap (λ (inner : Option Waiver). counts today (option_and_then (λ waiver. waiver.expires) inner)) alike.1
+
+pub same_root_counts : (today : Option Day)
+    → Same EntriesAlike (λ e. counts today (root_expires e)) (λ e. counts today (root_expires e))
+same_root_counts today a b alike =
+    ap (λ (inner : Option TreeSkipExtended). counts today (option_and_then (λ skip. skip.expires) inner)) alike.1
 
 root_seen : ℕ → Spec → Option TreeSkipExtended → Root
 root_seen number spec inner = record {
@@ -214,11 +230,19 @@ same_option Alike f same None (Some y) both = absurd both
 same_option Alike f same (Some x) None both = absurd both
 same_option Alike f same (Some x) (Some y) both = ap Some (same x y both)
 
-same_replacing : Same StdAlike replacing_view replacing_view
-same_replacing a b alike =
+-- the table `std-replacements` as the rules see it on a day
+replacing_on : Option Day → StdReplacementConfig → Replacing
+replacing_on today std = replacing_view (current_std today std)
+
+same_replacing : (today : Option Day) → Same StdAlike (replacing_on today) (replacing_on today)
+unfolding replacing_on
+same_replacing today a b alike =
     let rust_version =
     same_option VersionsAlike parts_of (λ x y same. same) a.rust_version b.rust_version alike.rust_version in
-    let ignore = same_map EntriesAlike entry_view entry_view same_entry a.ignore b.ignore alike.ignore in
+    let counting : PackageSpecOrExtended Waiver → Bool = λ e. counts today (skip_expires e) in
+    let ignore =
+    same_map EntriesAlike entry_view entry_view same_entry (filter counting a.ignore) (filter counting b.ignore)
+    (alike_filter EntriesAlike counting (same_skip_counts today) a.ignore b.ignore alike.ignore) in
     λ i. record {
       scope = scope_view (alike.scope i);
       level = alike.level i;
@@ -227,11 +251,18 @@ same_replacing a b alike =
       ignore_rust_version = scope_view (alike.ignore_rust_version i);
     }
 
--- the view of a valid configuration
-pub same_view : (a b : Config) (file next number following : ℕ) (these those : ValidConfig) → ConfigsAlike a b
-    → IsValidOf a file next these → IsValidOf b number following those
-    → policy_view these ≡ policy_view those
-same_view a b file next number following these those alike one two =
+replacing_twice : (today : Option Day) (std : Option StdReplacementConfig)
+    → option_map replacing_view (option_map (current_std today) std) ≡ option_map (replacing_on today) std
+unfolding replacing_on
+replacing_twice today None = refl
+replacing_twice today (Some std) = refl
+
+-- the view of what counts of a valid configuration
+pub same_view : (today : Option Day) (a b : Config) (file next number following : ℕ) (these those : ValidConfig)
+    → ConfigsAlike a b → IsValidOf a file next these → IsValidOf b number following those
+    → policy_view (current_bans today these) ≡ policy_view (current_bans today those)
+unfolding current_bans
+same_view today a b file next number following these those alike one two =
     let multiple_versions = one.multiple_versions ∙ alike.multiple_versions ∙ sym two.multiple_versions in
     let include_dev = one.include_dev ∙ alike.include_dev ∙ sym two.include_dev in
     let highlight = one.highlight ∙ alike.highlight ∙ sym two.highlight in
@@ -245,12 +276,18 @@ same_view a b file next number following these those alike one two =
     ∙ sym (ap (map allow_view) two.allowed) in
     let allow_workspace = one.allow_workspace ∙ alike.allow_workspace ∙ sym two.allow_workspace in
     let skip =
-    ap (map entry_view) one.skipped
-    ∙ same_map EntriesAlike entry_view entry_view same_entry a.skip b.skip alike.skip
-    ∙ sym (ap (map entry_view) two.skipped) in
+    ap (λ es. map entry_view (filter (λ e. counts today (skip_expires e)) es)) one.skipped
+    ∙ same_map EntriesAlike entry_view entry_view same_entry (filter (λ e. counts today (skip_expires e)) a.skip)
+    (filter (λ e. counts today (skip_expires e)) b.skip)
+    (alike_filter EntriesAlike (λ e. counts today (skip_expires e)) (same_skip_counts today) a.skip b.skip alike.skip)
+    ∙ sym (ap (λ es. map entry_view (filter (λ e. counts today (skip_expires e)) es)) two.skipped) in
     let skip_tree =
-    ap (roots_from 0) one.tree_skipped ∙ same_roots 0 a.skip_tree b.skip_tree alike.skip_tree
-    ∙ sym (ap (roots_from 0) two.tree_skipped) in
+    ap (λ es. roots_from 0 (filter (λ e. counts today (root_expires e)) es)) one.tree_skipped
+    ∙ same_roots 0 (filter (λ e. counts today (root_expires e)) a.skip_tree)
+    (filter (λ e. counts today (root_expires e)) b.skip_tree)
+    (alike_filter EntriesAlike (λ e. counts today (root_expires e)) (same_root_counts today) a.skip_tree b.skip_tree
+    alike.skip_tree)
+    ∙ sym (ap (λ es. roots_from 0 (filter (λ e. counts today (root_expires e)) es)) two.tree_skipped) in
     let features =
     ap (map feature_view) one.features ∙ same_features a b alike ∙ sym (ap (map feature_view) two.features) in
     let workspace_default =
@@ -260,9 +297,12 @@ same_view a b file next number following these those alike one two =
     let allow_wildcard_paths = one.allow_wildcard_paths ∙ alike.allow_wildcard_paths ∙ sym two.allow_wildcard_paths in
     let workspace = one.workspace_dependencies ∙ alike.workspace_dependencies ∙ sym two.workspace_dependencies in
     let replacing =
-    ap (option_map replacing_view) one.std_replacements
-    ∙ same_option StdAlike replacing_view same_replacing a.std_replacements b.std_replacements alike.std_replacements
-    ∙ sym (ap (option_map replacing_view) two.std_replacements) in
+    replacing_twice today these.std_replacements
+    ∙ ap (option_map (replacing_on today)) one.std_replacements
+    ∙ same_option StdAlike (replacing_on today) (same_replacing today) a.std_replacements b.std_replacements
+    alike.std_replacements
+    ∙ sym (ap (option_map (replacing_on today)) two.std_replacements)
+    ∙ sym (replacing_twice today those.std_replacements) in
     λ i. record {
       multiple_versions = multiple_versions i;
       include_dev = include_dev i;

@@ -10,14 +10,14 @@ use Rattle.deny_cfg_tables.specs.declared.licenses.config.Config.{Config}
 abbrev pub wrapper_spans : KrateBan → List Span
 wrapper_spans ban = of_some word_spans ban.wrappers
 
--- no spans of a reason, or of what an entry of `skip-tree` gives beside its spec
+-- no spans of a reason, or of what an entry of `skip`, `ignore` or `skip-tree` gives beside its spec
 abbrev pub no_span : {T : Type 0} → T → List Span
 no_span x = []
 
 -- the spans of the entries' names, the wrappers of bans, the features in entries of `features`, and the levels of
 -- default features
 unfoldable pub entry_spans : ValidConfig → List Span
-entry_spans cfg = spans_by wrapper_spans no_span no_span cfg
+entry_spans cfg = spans_by wrapper_spans no_span no_span no_span cfg
 
 abbrev pub IsLawful : ValidConfig → Type 0
 IsLawful cfg = AllPairs (λ one other. one ≢ other) (entry_spans cfg)

@@ -1,5 +1,5 @@
 pub mod Clashes
-pub mod Deprecated
+pub mod Current
 pub mod LabelSpans
 pub mod Lawful
 pub mod LicensingView
@@ -8,6 +8,8 @@ pub mod PolicyText
 pub mod PolicyView
 pub mod Valid
 pub mod Validating
+pub mod Waiting
+pub mod Warnings
 pub mod private
 pub use Rattle.deny_cfg_build.specs.BuildingView
 pub use Rattle.deny_cfg_entries.specs.Day
@@ -19,6 +21,7 @@ pub use Rattle.deny_cfg_entries.specs.RustVersion
 pub use Rattle.deny_cfg_entries.specs.Spec
 pub use Rattle.deny_cfg_entries.specs.SpecView
 pub use Rattle.deny_cfg_entries.specs.Table
+pub use Rattle.deny_cfg_entries.specs.Waivers
 pub use Rattle.deny_cfg_entries.specs.Words
 pub use Rattle.deny_cfg_tables.specs.Bans
 pub use Rattle.deny_cfg_tables.specs.Build
@@ -29,10 +32,12 @@ pub use Rattle.deny_cfg_tables.specs.Highlight
 pub use Rattle.deny_cfg_tables.specs.Licenses
 pub use Rattle.deny_cfg_tables.specs.StdReplacements
 pub use Rattle.deny_cfg_tables.specs.Workspace
+pub use Rattle.deny_cfg_entries.specs.declared.expiry.Expiry
 pub use Rattle.deny_cfg_entries.specs.declared.reason.Reason
 pub use Rattle.deny_cfg_entries.specs.declared.package_spec.PackageSpec
 pub use Rattle.deny_cfg_entries.specs.declared.scope.Scope
 pub use Rattle.deny_cfg_entries.specs.declared.spec_or_extended.PackageSpecOrExtended
+pub use Rattle.deny_cfg_entries.specs.declared.waiver.Waiver
 pub use Rattle.deny_cfg_tables.specs.declared.bans.cfg.tree_skip.TreeSkipExtended
 pub use Rattle.deny_cfg_tables.specs.declared.bans.cfg.std_replacements.StdReplacementConfig
 pub use Rattle.deny_cfg_tables.specs.declared.licenses.config.Config as LicensesConfig

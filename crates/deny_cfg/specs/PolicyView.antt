@@ -6,6 +6,7 @@ use Rattle.deny_cfg_build.specs.BuildingView.{building_view, globs_file}
 use Rattle.deny_spec.specs.Building.{Building}
 use Rattle.deny_spec.specs.Policy as model
 use Rattle.deny_spec.specs.Policy.{AllowEntry, Ban, Entry, FeatureEntry, Policy, Replacing, Root, Sharing, SpannedText}
+use Rattle.deny_spec.specs.Expired.{PastWaiver}
 use Rattle.deny_cfg_entries.specs.SpecView.{spec_view}
 use Rattle.deny_cfg_tables.specs.Highlight.{shows_lowest, shows_simplest}
 use Rattle.deny_cfg_tables.specs.declared.bans.cfg.std_replacements.StdReplacementConfig.{StdReplacementConfig}
@@ -14,10 +15,13 @@ use Rattle.deny_cfg_tables.specs.declared.bans.cfg.workspace.WorkspaceDepsConfig
 use Rattle.deny_cfg.specs.declared.bans.cfg.valid.KrateBan.{KrateBan}
 use Rattle.deny_cfg.specs.declared.bans.cfg.valid.ValidConfig.{ValidConfig}
 use Rattle.deny_cfg.specs.declared.bans.cfg.valid.ValidKrateFeatures.{ValidKrateFeatures}
+use Rattle.deny_cfg.specs.declared.expired.ExpiredWaiver.{ExpiredWaiver}
+use Rattle.deny_cfg.specs.declared.policy.Policy as read
 use Rattle.deny_cfg_entries.specs.declared.reason.Reason.{Reason}
 use Rattle.deny_cfg_entries.specs.declared.scope.Scope.{Scope}
 use Rattle.deny_cfg_entries.specs.declared.scope.Scope.TheVariants as scope
 use Rattle.deny_cfg_entries.specs.declared.spec_or_extended.PackageSpecOrExtended.{PackageSpecOrExtended}
+use Rattle.deny_cfg_entries.specs.declared.waiver.Waiver.{Waiver}
 
 abbrev pub words_or_none : Option (List SpannedText) → List SpannedText
 words_or_none None = []
@@ -37,8 +41,11 @@ ban_view e = record {
 abbrev pub allow_view : PackageSpecOrExtended Reason → AllowEntry
 allow_view e = record { spec = spec_view e.spec; reason = option_map reason_words e.inner }
 
-abbrev pub entry_view : PackageSpecOrExtended Reason → Entry
-entry_view e = record { spec = spec_view e.spec; reason = option_map reason_words e.inner }
+abbrev pub entry_view : PackageSpecOrExtended Waiver → Entry
+entry_view e = record {
+  spec = spec_view e.spec;
+  reason = option_map reason_words (option_and_then (λ waiver. waiver.reason) e.inner);
+}
 
 abbrev pub root_view : ℕ → PackageSpecOrExtended TreeSkipExtended → Root
 root_view number e = record {
@@ -114,3 +121,15 @@ builtin_file_of cfg = option_and_then globs_file cfg.build
 -- the globs of the table `build` are read from its texts
 abbrev pub AreGlobsRead : ValidConfig → Type 0
 AreGlobsRead cfg = IfSome cfg.build IsReadBuild
+
+-- an expired waiver as its warning shows it
+abbrev pub past_waiver_view : ExpiredWaiver → PastWaiver
+past_waiver_view w = record {
+  spec = spec_view w.spec;
+  expires = record { value = w.expires.value.written; span = w.expires.span };
+  reason = option_map reason_words w.reason;
+}
+
+-- the waivers of a policy that expired
+abbrev pub past_waivers_of : read.Policy → List PastWaiver
+past_waivers_of policy = map past_waiver_view policy.expired_waivers

@@ -1,4 +1,4 @@
-pub mod Deprecated
 pub mod FirstSpans
 pub mod LabelSpans
 pub mod PolicyText
+pub mod Warnings

@@ -1,16 +1,18 @@
 //! Policies read from texts.
 ghost use Rattle.std.specs.Prelude.{◌≡◌, ℕ, ◌+◌, ◌++◌, ◌<◌, ◌^◌, ◌∷◌, [], All, IfOk, IfErr, IfSome, None};
-ghost use Rattle.std.specs.Prelude.{OnOk, length, take};
+ghost use Rattle.std.specs.Prelude.{OnOk, Option, length, take};
 ghost use Rattle.deny_toml.specs.Apart.{AreApart};
 ghost use Rattle.deny_toml.specs.Calls.{below_name, value_at, without};
 ghost use Rattle.deny_toml.specs.Faults.{Reports, fault_at, in_order};
 ghost use Rattle.deny_toml.specs.Parser.{IsTreeOf};
 ghost use Rattle.deny_toml.specs.Spans.{OccursIn};
 ghost use Rattle.deny_toml.specs.TableHelper.{optional_faults};
+ghost use Rattle.deny_cfg_entries.specs.declared.day.Day as day;
 ghost use Rattle.deny_cfg_tables.specs.Config.{faults_of_config};
 ghost use Rattle.deny_cfg_tables.specs.Licenses.{faults_of_licenses};
-ghost use Rattle.deny_cfg.specs.Deprecated.{warnings_of};
-ghost use Rattle.deny_cfg.specs.LabelSpans.{AreLabels, licence_spans};
+ghost use Rattle.deny_cfg.specs.Current.{AreInOrder, IsCurrent};
+ghost use Rattle.deny_cfg.specs.Warnings.{expired_warnings, warnings_of};
+ghost use Rattle.deny_cfg.specs.LabelSpans.{AreLabels, expired_spans, licence_spans};
 ghost use Rattle.deny_cfg.specs.private.LabelSpans.{config_labels};
 ghost use Rattle.deny_cfg.specs.LabelSpans.{older_span, word_labels};
 ghost use Rattle.deny_cfg.specs.private.LabelSpans.{list_spans};
@@ -20,15 +22,20 @@ ghost use Rattle.deny_cfg.specs.PolicyText.{IsNoPolicy, IsPolicyOf, KeepsOnError
 ghost use Rattle.deny_cfg.specs.private.PolicyText.{AddsOnError, IsConfig};
 ghost use Rattle.deny_cfg.specs.PolicyText.{ReadsBans, ReadsLicensing, Says, bans_name, faults_of_tree, globs_files};
 ghost use Rattle.deny_cfg.specs.PolicyText.{kind_of, licenses_name, policy_files};
-ghost use Rattle.deny_cfg.specs.PolicyView.{builtin_file_of};
+ghost use Rattle.deny_cfg.specs.PolicyView.{builtin_file_of, past_waivers_of};
 ghost use Rattle.deny_cfg.specs.Validating.{source_in};
+ghost use Rattle.deny_cfg.specs.Waiting.{no_today};
 
 use crate::bans::cfg::ValidConfig;
+use crate::expired::{ExpiredWaiver, ids_of, take_from_bans, take_from_licenses};
 use crate::licenses;
 use crate::validate::{UnvalidatedConfig, ValidationContext};
-use deny_base::{Diagnostic, FileId, Files, Span};
-use deny_base_lists::{List, NoMemory, Text};
+use crate::waiting::no_today;
+use crate::warnings::report_expired;
+use deny_base::{Diagnostic, EntryId, FileId, Files, Span};
+use deny_base_lists::{List, NoMemory, Text, put_records_in_order};
 use deny_cfg_build::older_key_by;
+use deny_cfg_entries::Day;
 use deny_cfg_tables::bans::cfg::Config;
 use deny_toml::{
     ConfigFault, DeserError, FaultKind, TableHelper, TomlError, TomlKind, Value, parse,
@@ -37,14 +44,19 @@ use deny_toml::{
 use std::alloc::Global;
 use thiserror::Error;
 
-/// A policy that was read from a text.
+/// The policy of a day that was read from a text: entries whose last day has passed are not among its entries.
 #[derive(Drop)]
 pub struct Policy {
     /// The table `bans`, with its defaults where the text has no such table.
     pub bans: ValidConfig,
     /// The table `licenses`; None exactly where the text has no such table.
     pub licenses: Option<licenses::ValidConfig>,
-    /// Warnings about the policy itself: that `allow-build-scripts` stands for the table `build`.
+    /// The entries whose last day has passed, by range.
+    pub expired: List<EntryId>,
+    /// What these entries say, in the same order.
+    pub expired_waivers: List<ExpiredWaiver>,
+    /// Warnings about the policy itself: that `allow-build-scripts` stands for the table `build`, and then one for
+    /// each entry whose last day has passed.
     pub warnings: List<Diagnostic>,
 }
 
@@ -93,7 +105,7 @@ fn tree_of<'t>(alloc: Global, text: &'t str) -> Result<Value<'t>, PolicyError>
     ensures tree { IfOk result (IsTreeOf text.now) }
     ensures holds { IfOk result (OccursIn text.now) }
     ensures apart { IfOk result AreApart }
-    ensures faults { IfErr result (IsConfig (ListsFaults text.now)) }
+    ensures faults { IfErr result (IsConfig (λ faults. (today : Option day.Day) → ListsFaults today text.now faults)) }
 {
     match parse(alloc, text) {
         Ok(tree) => Ok(tree),
@@ -138,16 +150,22 @@ impl Tables {
 }
 
 /// Reads the tables of a tree; other keys of the root are not read.
-fn read_tables(alloc: Global, tree: &mut Value<'_>) -> Result<Tables, DeserError>
-    ensures faultless { IfOk result (λ tables. faults_of_tree tree.old ≡ []) }
+fn read_tables(
+    alloc: Global,
+    today: Option<Day>,
+    tree: &mut Value<'_>,
+) -> Result<Tables, DeserError>
+    ensures faultless { IfOk result (λ tables. faults_of_tree today tree.old ≡ []) }
     ensures bans { IfOk result (λ tables. ReadsBans (below_name bans_name tree.old) tables.bans) }
     ensures licenses { IfOk result (λ tables. ReadsLicensing (below_name licenses_name tree.old) tables.licenses) }
-    ensures faults { IfErr result (Reports (faults_of_tree tree.old)) }
+    ensures faults { IfErr result (Reports (faults_of_tree today tree.old)) }
 {
+    let waiting = no_today(alloc, today, tree)?;
     if tree.as_table().is_none() {
-        return Ok(Tables::none(alloc));
+        return tables_or_faults(Tables::none(alloc), waiting);
     }
     let mut root = TableHelper::new(alloc, tree)?;
+    root.keep(waiting)?;
     let tables = tables_in_root(alloc, &mut root)?;
     tables_or_faults(tables, root.faults)
 }
@@ -210,16 +228,16 @@ fn faultless(faults: List<ConfigFault>) -> Result<(), DeserError>
 }
 
 /// The tables of a text, whose entries may still clash.
-fn tables_of(alloc: Global, text: &str) -> Result<Tables, PolicyError>
+fn tables_of(alloc: Global, today: Option<Day>, text: &str) -> Result<Tables, PolicyError>
     requires small { length text.now < 2 ^ 28 }
-    ensures says { IfOk result (λ tables. Says text.now tables.bans tables.licenses) }
+    ensures says { IfOk result (λ tables. Says today text.now tables.bans tables.licenses) }
     ensures labels { IfOk result (λ tables. AreLabels text.now (config_labels tables.bans)) }
     ensures lists { IfOk result (λ tables. All (IsPolicySpan text.now) (list_spans tables.bans)) }
     ensures licence_labels { IfOk result (λ tables. AreLabels text.now (licence_spans tables.licenses)) }
-    ensures faults { IfErr result (IsConfig (ListsFaults text.now)) }
+    ensures faults { IfErr result (IsConfig (ListsFaults today text.now)) }
 {
     let mut tree = tree_of(alloc, text)?;
-    match read_tables(alloc, &mut tree) {
+    match read_tables(alloc, today, &mut tree) {
         Ok(tables) => Ok(tables),
         Err(DeserError::Faults(faults)) => Err(PolicyError::Config(faults)),
         Err(DeserError::Memory) => Err(PolicyError::Memory),
@@ -245,9 +263,49 @@ fn first_reported(reported: List<Diagnostic>, count: usize) -> List<Diagnostic>
     reported
 }
 
+/// The expired entries in ascending order, and which they are.
+fn put_expired_in_order(expired: &mut List<ExpiredWaiver>) -> Result<(), NoMemory>
+    ensures { OnOk result (AreInOrder expired.old expired.new) }
+{
+    put_records_in_order(expired)
+}
+
+/// The policy of a day, of one that is written in this file and has these warnings.
+fn current_policy(
+    alloc: Global,
+    today: Option<Day>,
+    file: FileId,
+    bans: ValidConfig,
+    licenses: Option<licenses::ValidConfig>,
+    warnings: List<Diagnostic>,
+) -> Result<Policy, NoMemory>
+    ensures current { IfOk result (IsCurrent today bans licenses) }
+    ensures warnings { IfOk result (λ policy.
+        policy.warnings ≡ warnings ++ expired_warnings file (past_waivers_of policy)) }
+{
+    let mut bans = bans;
+    let mut licenses = licenses;
+    let mut expired = List::new(alloc);
+    take_from_bans(alloc, today, &mut bans, &mut expired)?;
+    take_from_licenses(alloc, today, &mut licenses, &mut expired)?;
+    put_expired_in_order(&mut expired)?;
+    let waivers = expired.as_slice();
+    let ids = ids_of(alloc, waivers)?;
+    let mut warnings = warnings;
+    report_expired(alloc, file, waivers, &mut warnings)?;
+    Ok(Policy {
+        bans,
+        licenses,
+        expired: ids,
+        expired_waivers: expired,
+        warnings,
+    })
+}
+
 /// The policy of a text that is the last file and has this number.
 fn policy_of(
     alloc: Global,
+    today: Option<Day>,
     text: &str,
     file: FileId,
     files: &mut Files,
@@ -256,17 +314,18 @@ fn policy_of(
     requires few { length files.old < 2 ^ 31 }
     requires source { text.now ≡ source_in files.old file }
     requires last { length files.old ≡ file + 1 }
-    ensures policy { IfOk result (IsPolicyOf text.now file) }
+    ensures policy { IfOk result (IsPolicyOf today text.now file) }
     ensures labels { IfOk result (λ policy. AreLabels text.now (word_labels policy.bans)) }
     ensures older_key { IfOk result (λ policy. All (IsPolicySpan text.now) (older_span policy.bans)) }
+    ensures expired_labels { IfOk result (λ policy. All (IsPolicySpan text.now) (expired_spans policy.expired_waivers)) }
     ensures lawful { IfOk result (λ policy. IsLawful policy.bans) }
     ensures licence_labels { IfOk result (λ policy. AreLabels text.now (licence_spans policy.licenses)) }
     ensures lawful_licences { IfOk result (λ policy. IfSome policy.licenses IsLawfulLicensing) }
-    ensures cause { IfErr result (IsNoPolicy text.now file) }
+    ensures cause { IfErr result (IsNoPolicy today text.now file) }
     ensures files { IfOk result (λ policy. files.new ≡ files.old ++ globs_files (builtin_file_of policy.bans)) }
-    ensures files_too { IfErr result (λ e. AddsOnError e text.now files.old files.new) }
+    ensures files_too { IfErr result (λ e. AddsOnError today e text.now files.old files.new) }
 {
-    let tables = tables_of(alloc, text)?;
+    let tables = tables_of(alloc, today, text)?;
     let warnings = warnings_len(&tables.bans);
     let mut reported = List::new(alloc);
     let bans = tables.bans.validate(ValidationContext {
@@ -276,11 +335,7 @@ fn policy_of(
         diagnostics: &mut reported,
     })?;
     if reported.len() == warnings {
-        Ok(Policy {
-            bans,
-            licenses: tables.licenses,
-            warnings: reported,
-        })
+        Ok(current_policy(alloc, today, file, bans, tables.licenses, reported)?)
     } else {
         let clashes = reported.len() - warnings;
         Err(PolicyError::Invalid(first_reported(reported, clashes)))
@@ -294,23 +349,32 @@ fn policy_of(
 /// The error is `Config` exactly where the text has faults, and `Invalid` exactly where it has none and some
 /// entries clash. `Memory` may come in place of each of these, and in place of a policy; then both files may
 /// have been added, or the first of them, or none.
-pub fn read_policy(alloc: Global, bytes: &[u8], files: &mut Files) -> Result<Policy, PolicyError>
+///
+/// An entry that has a last day counts through that day. Where it is not told which day it is, each such day is a
+/// fault.
+pub fn read_policy(
+    alloc: Global,
+    bytes: &[u8],
+    files: &mut Files,
+    today: Option<Day>,
+) -> Result<Policy, PolicyError>
     requires small { length bytes.now < 2 ^ 28 }
     requires few { length files.old < 2 ^ 30 }
-    ensures policy { IfOk result (IsPolicyOf bytes.now (length files.old)) }
+    ensures policy { IfOk result (IsPolicyOf today bytes.now (length files.old)) }
     ensures labels { IfOk result (λ policy. AreLabels bytes.now (word_labels policy.bans)) }
     ensures older_key { IfOk result (λ policy. All (IsPolicySpan bytes.now) (older_span policy.bans)) }
+    ensures expired_labels { IfOk result (λ policy. All (IsPolicySpan bytes.now) (expired_spans policy.expired_waivers)) }
     ensures lawful { IfOk result (λ policy. IsLawful policy.bans) }
     ensures licence_labels { IfOk result (λ policy. AreLabels bytes.now (licence_spans policy.licenses)) }
     ensures lawful_licences { IfOk result (λ policy. IfSome policy.licenses IsLawfulLicensing) }
-    ensures cause { IfErr result (IsNoPolicy bytes.now (length files.old)) }
+    ensures cause { IfErr result (IsNoPolicy today bytes.now (length files.old)) }
     ensures kept { IfOk result (λ policy. files.new ≡ files.old ++ policy_files bytes.now policy.bans) }
-    ensures kept_too { IfErr result (λ e. KeepsOnError e bytes.now files.old files.new) }
+    ensures kept_too { IfErr result (λ e. KeepsOnError today e bytes.now files.old files.new) }
 {
     match str::from_utf8(bytes) {
         Ok(text) => {
             let file = files.add("deny.toml", text)?;
-            policy_of(alloc, text, file, files)
+            policy_of(alloc, today, text, file, files)
         }
         Err(_) => Err(PolicyError::of_text(alloc, FaultKind::NotUtf8, Span { start: 0, end: 0 })),
     }

@@ -27,6 +27,7 @@ pub record IsBypassOf (bypass : Bypass) (valid : ValidBypass) : Type 0 where
   pub required_features : valid.required_features ≡ bypass.required_features
   pub allow_globs : OfBoth (λ globs. IsSetOf own_text (map User globs)) bypass.allow_globs valid.allow_globs
   pub allow : valid.allow ≡ bypass.allow
+  pub expires : valid.expires ≡ bypass.expires
 
 -- the patterns of the built-in globs, where their file has a number
 abbrev pub builtin_if : Option ℕ → List GlobPattern

@@ -58,6 +58,7 @@ fn bypass_of(alloc: Global, bypass: Bypass) -> Result<ValidBypass, NoMemory>
         required_features: bypass.required_features,
         allow_globs: own_set_if(alloc, bypass.allow_globs)?,
         allow: bypass.allow,
+        expires: bypass.expires,
     })
 }
 

@@ -6,7 +6,7 @@ ghost use Rattle.deny_cfg_build.specs.Globs.{AreWritten, AreWritten-prop, extens
 use crate::glob_set::ValidGlobSet;
 use deny_base::{LintLevel, Span, Spanned};
 use deny_base_lists::{List, Text};
-use deny_cfg_entries::PackageSpec;
+use deny_cfg_entries::{Expiry, PackageSpec};
 use deny_cfg_tables::bans::cfg::{BypassPath, Checksum};
 
 /// An entry of `bypass`: what the build check allows a crate.
@@ -22,6 +22,8 @@ pub struct ValidBypass {
     pub allow_globs: Option<ValidGlobSet>,
     /// The single files that are allowed.
     pub allow: List<BypassPath>,
+    /// The last day on which the entry counts; without it, it counts on every day.
+    pub expires: Option<Spanned<Expiry>>,
     pub ghost globs_written: { IfSome allow_globs (AreWritten own_text) } by { Prim.hlevel (props, AreWritten-prop) },
 }
 

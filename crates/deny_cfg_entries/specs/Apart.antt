@@ -7,6 +7,7 @@ use Rattle.deny_cfg_entries.specs.Table.{Entries, Field, are_apart, at_key}
 use Rattle.deny_cfg_entries.specs.Spec.{crate_fields, name_fields, spec_fields}
 use Rattle.deny_cfg_entries.specs.Entry.{entry_fields}
 use Rattle.deny_cfg_entries.specs.Reasons.{reason_fields}
+use Rattle.deny_cfg_entries.specs.Waivers.{waiver_fields}
 
 by_crate : (fields : List Field) (has_crate : Bool) → are_apart (crate_fields ++ fields) ≡ true
     → are_apart (name_fields ++ fields) ≡ true
@@ -36,3 +37,11 @@ name-apart = refl
 pub reason_entry-apart : (entries : Entries) → are_apart (entry_fields reason_fields entries) ≡ true
 unfolding name_of
 reason_entry-apart = entry-apart reason_fields refl refl
+
+pub waiver-apart : are_apart waiver_fields ≡ true
+unfolding name_of
+waiver-apart = refl
+
+pub waiver_entry-apart : (entries : Entries) → are_apart (entry_fields waiver_fields entries) ≡ true
+unfolding name_of
+waiver_entry-apart = entry-apart waiver_fields refl refl

@@ -6,6 +6,7 @@ use Rattle.deny_cfg_entries.specs.Entry.{ReadsSome, holds_none}
 use Rattle.deny_cfg_entries.specs.Reasons.{ReadsReason, ReadsReasonKey, reason_fields}
 use Rattle.deny_cfg_entries.specs.Table.{AreAlikeAt, DependsOn, EachSays, Entries, Field, ReadsIfThere, ReadsKeys}
 use Rattle.deny_cfg_entries.specs.Table.{TableKey, fields_of}
+use Rattle.deny_cfg_entries.specs.Waivers.{ReadsWaiver, waiver_fields, waiver_keys}
 
 holds_alike : (fields : List Field) (one other : Entries) → AreAlikeAt fields one other
     → holds_none fields one ≡ holds_none fields other
@@ -37,3 +38,6 @@ keys-depend keys one other x alike reads = record { each = each-depends keys one
 
 pub reason-depends : DependsOn reason_fields ReadsReasonKey
 reason-depends one other reason alike reads = subst (λ v. ReadsIfThere ReadsReason v reason) alike.0 reads
+
+pub waiver-depends : DependsOn waiver_fields (ReadsSome waiver_fields ReadsWaiver)
+waiver-depends = some-depends waiver_fields ReadsWaiver (keys-depend waiver_keys)

@@ -10,4 +10,5 @@ pub mod RustVersion
 pub mod Spec
 pub mod SpecView
 pub mod Table
+pub mod Waivers
 pub mod Words

@@ -18,7 +18,7 @@ reason_fields = optional key.Reason faults_of_any_text ∷ []
 abbrev pub ReadsReasonKey : Entries → Option Reason → Type 0
 ReadsReasonKey entries reason = ReadsIfThere ReadsReason (at_key key.Reason entries) reason
 
--- an entry of `allow`, `skip` or `ignore`
+-- an entry of `allow`
 abbrev pub faults_of_reasoned : Value → List ConfigFault
 faults_of_reasoned = faults_of_entry reason_fields
 

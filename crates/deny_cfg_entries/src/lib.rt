@@ -24,9 +24,12 @@
 //!
 //! A day is the date of its three numbers, and not read by the `FromStr` of dates, which takes further forms: a time
 //! behind the date, a sign and six digits of a year, a date without `-`. So `2026-01-31` is the one text of its day.
+//!
+//! `expires` is a text or a date of TOML; a date with a time, or a time alone, is of the right kind and names no day.
 #![tactic(auto)]
 
 mod day;
+mod expiry;
 mod extended;
 mod flag;
 mod from_table;
@@ -44,9 +47,11 @@ mod spec_or_extended;
 pub mod table;
 mod unread;
 mod version_key;
+mod waiver;
 mod written_requirement;
 
 pub use day::{Day, DayError, read_day};
+pub use expiry::{Expiry, day_at};
 pub use extended::{Extended, read_entry};
 pub use flag::is_set;
 pub use from_table::{FromTable, read_table};
@@ -60,3 +65,4 @@ pub use scope::Scope;
 pub use spec_equal::equal_specs_match_alike;
 pub use spec_or_extended::PackageSpecOrExtended;
 pub use unread::pass_unread;
+pub use waiver::Waiver;

@@ -9,6 +9,7 @@ use Rattle.deny_toml.specs.Calls.{text_in}
 use Rattle.deny_toml.specs.value.Value.{Value}
 use Rattle.deny_cfg_entries.specs.RustVersion.{rust_version_in}
 use Rattle.deny_cfg_entries.specs.Reasons.{ReadsReason, ReadsReasonKey, ReadsReasoned}
+use Rattle.deny_cfg_entries.specs.Waivers.{ReadsExpiry, ReadsWaived, ReadsWaiver, waiver_fields}
 use Rattle.deny_cfg_tables.specs.Bans.{ReadsBan, ReadsBanEntry, ReadsTreeSkip, ReadsTreeSkipEntry, ban_fields}
 use Rattle.deny_cfg_tables.specs.Bans.{tree_skip_fields}
 use Rattle.deny_cfg_tables.specs.Config.{ReadsConfig}
@@ -43,6 +44,24 @@ one_reason v x y one two =
 one_reason_key : ReadsOne ReadsReasonKey
 one_reason_key entries x y one two = one_optional ReadsReason one_reason (at_key key.Reason entries) x y one two
 
+pub one_expiry : ReadsOne (ReadsSpanned ReadsExpiry)
+one_expiry v x y one two =
+    let text : x.value.written ≡ y.value.written = cc (one.1.0, two.1.0) in
+    let number : x.value.day.0 ≡ y.value.day.0 = cc (one.1.1, two.1.1, text) in
+    let span : x.span ≡ y.span = one.0 ∙ sym two.0 in
+    λ i. record { value = record { day = record { 0 = number i }; written = text i }; span = span i }
+
+one_waiver : ReadsOne ReadsWaiver
+unfolding name_of
+one_waiver entries x y one two =
+    let reason =
+    one_optional ReadsReason one_reason (at_key key.Reason entries) x.reason y.reason (says_of key.Reason one)
+    (says_of key.Reason two) in
+    let expires =
+    one_optional (ReadsSpanned ReadsExpiry) one_expiry (at_key key.Expires entries) x.expires y.expires
+    (says_of key.Expires one) (says_of key.Expires two) in
+    λ i. record { reason = reason i; expires = expires i }
+
 one_ban : ReadsOne ReadsBan
 unfolding name_of
 one_ban entries x y one two =
@@ -75,7 +94,10 @@ one_tree_skip entries x y one two =
     let reason =
     one_optional ReadsReason one_reason (at_key key.Reason entries) x.reason y.reason (says_of key.Reason one)
     (says_of key.Reason two) in
-    λ i. record { depth = depth i; reason = reason i }
+    let expires =
+    one_optional (ReadsSpanned ReadsExpiry) one_expiry (at_key key.Expires entries) x.expires y.expires
+    (says_of key.Expires one) (says_of key.Expires two) in
+    λ i. record { depth = depth i; reason = reason i; expires = expires i }
 
 one_features : ReadsOne ReadsFeatures
 unfolding name_of
@@ -126,6 +148,9 @@ entry_alike Reads same v a b one two = entry_by_alike Reads same (text_in v) v a
 
 reasoned_alike : ReadsAlike ReadsReasoned EntriesAlike
 reasoned_alike = entry_alike ReadsReasonKey one_reason_key
+
+waived_alike : ReadsAlike ReadsWaived EntriesAlike
+waived_alike = entry_alike (ReadsSome waiver_fields ReadsWaiver) (one_some waiver_fields ReadsWaiver one_waiver)
 
 ban_alike : ReadsAlike ReadsBanEntry EntriesAlike
 ban_alike = entry_alike (ReadsSome ban_fields ReadsBan) (one_some ban_fields ReadsBan one_ban)
@@ -193,7 +218,7 @@ std_keys_alike entries a b one two = record {
       alike_optional ReadsRustVersion VersionsAlike versions_alike (at_key key.RustVersion entries) a.rust_version
       b.rust_version (says_of key.RustVersion one) (says_of key.RustVersion two);
   ignore =
-      alike_list_or ReadsReasoned EntriesAlike reasoned_alike (at_key key.Ignore entries) a.ignore b.ignore
+      alike_list_or ReadsWaived EntriesAlike waived_alike (at_key key.Ignore entries) a.ignore b.ignore
       (says_of key.Ignore one) (says_of key.Ignore two);
   ignore_rust_version =
       one_or scope.None (ReadsAs scope_of) (one_as scope_of) (at_key key.IgnoreRustVersion entries)
@@ -276,7 +301,7 @@ configs_alike entries a b one two = record {
       alike_list_or ReadsCrateFeatures FeaturesAlike features_alike (at_key key.Features entries) a.features b.features
       (says_of key.Features one) (says_of key.Features two);
   skip =
-      alike_list_or ReadsReasoned EntriesAlike reasoned_alike (at_key key.Skip entries) a.skip b.skip
+      alike_list_or ReadsWaived EntriesAlike waived_alike (at_key key.Skip entries) a.skip b.skip
       (says_of key.Skip one) (says_of key.Skip two);
   skip_tree =
       alike_list_or ReadsTreeSkipEntry EntriesAlike tree_skip_alike (at_key key.SkipTree entries) a.skip_tree

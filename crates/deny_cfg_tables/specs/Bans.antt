@@ -7,6 +7,7 @@ use Rattle.deny_cfg_entries.specs.declared.spec_or_extended.PackageSpecOrExtende
 use Rattle.deny_cfg_entries.specs.Entry.{ReadsSome, ReadsEntry, faults_of_entry}
 use Rattle.deny_cfg_entries.specs.Reasons.{a_reason}
 use Rattle.deny_cfg_entries.specs.Table.{Entries, Field, ReadsKeys, TableKey, fields_of, may_hold}
+use Rattle.deny_cfg_entries.specs.Waivers.{an_expiry}
 use Rattle.deny_cfg_entries.specs.Words.{Kind, a_count, a_flag, a_text, some_texts, spanned}
 use Rattle.deny_cfg_tables.specs.declared.bans.cfg.ban.CrateBanExtended.{CrateBanExtended}
 use Rattle.deny_cfg_tables.specs.declared.bans.cfg.tree_skip.TreeSkipExtended.{TreeSkipExtended}
@@ -35,6 +36,7 @@ abbrev pub tree_skip_keys : List (TableKey TreeSkipExtended)
 tree_skip_keys =
     may_hold key.Depth a_count (λ skip. skip.depth)
     ∷ may_hold key.Reason a_reason (λ skip. skip.reason)
+    ∷ may_hold key.Expires (spanned an_expiry) (λ skip. skip.expires)
     ∷ []
 
 abbrev pub tree_skip_fields : List Field
@@ -42,6 +44,9 @@ tree_skip_fields = fields_of tree_skip_keys
 
 abbrev pub ReadsTreeSkip : Entries → TreeSkipExtended → Type 0
 ReadsTreeSkip = ReadsKeys tree_skip_keys
+
+abbrev pub says_no_tree : TreeSkipExtended → Bool
+says_no_tree skip = is_none skip.depth && (is_none skip.reason && is_none skip.expires)
 
 -- ---- entries of `deny`, and of `skip-tree`
 abbrev pub faults_of_ban : Value → List ConfigFault

@@ -8,6 +8,7 @@ use Rattle.deny_cfg_entries.specs.Entry.{ReadsEntryKeys, entry_fields}
 use Rattle.deny_cfg_entries.specs.Spec.{a_spec}
 use Rattle.deny_cfg_entries.specs.Table.{Entries, Field, ReadsKeys, ReadsTable, TableKey, a_table, faults_of_table}
 use Rattle.deny_cfg_entries.specs.Table.{fields_of, holds_or, may_hold, must_hold}
+use Rattle.deny_cfg_entries.specs.Waivers.{an_expiry}
 use Rattle.deny_cfg_entries.specs.Words.{Kind, ReadsAs, a_flag, a_level, a_list, a_text, faults_as, some_texts, spanned}
 use Rattle.deny_cfg_tables.specs.declared.bans.cfg.build.BuildConfig.{BuildConfig}
 use Rattle.deny_cfg_tables.specs.declared.bans.cfg.bypass.Bypass.{Bypass}
@@ -45,6 +46,7 @@ bypass_keys =
     ∷ holds_or [] key.RequiredFeatures some_texts (λ keys. keys.required_features)
     ∷ may_hold key.AllowGlobs some_texts (λ keys. keys.allow_globs)
     ∷ holds_or [] key.Allow (a_list (a_table bypass_path_keys)) (λ keys. keys.allow)
+    ∷ may_hold key.Expires (spanned an_expiry) (λ keys. keys.expires)
     ∷ []
 
 abbrev pub bypass_fields : List Field
@@ -59,6 +61,7 @@ keys_in bypass = record {
   required_features = bypass.required_features;
   allow_globs = bypass.allow_globs;
   allow = bypass.allow;
+  expires = bypass.expires;
 }
 
 abbrev pub faults_of_bypass : Value → List ConfigFault

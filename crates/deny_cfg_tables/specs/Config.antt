@@ -8,6 +8,7 @@ use Rattle.deny_cfg_entries.specs.Reasons.{a_reasoned_entry}
 use Rattle.deny_cfg_entries.specs.Spec.{a_spec}
 use Rattle.deny_cfg_entries.specs.Table.{Entries, Field, ReadsKeys, TableKey, faults_of_table, fields_of, holds_or}
 use Rattle.deny_cfg_entries.specs.Table.{may_hold}
+use Rattle.deny_cfg_entries.specs.Waivers.{a_waived_entry}
 use Rattle.deny_cfg_entries.specs.Words.{a_flag, a_level, a_list, a_word, spanned}
 use Rattle.deny_cfg_tables.specs.declared.bans.cfg.config.Config.{Config}
 use Rattle.deny_cfg_tables.specs.declared.bans.cfg.highlight.GraphHighlight.TheVariants as highlight
@@ -29,7 +30,7 @@ bans_keys =
     ∷ may_hold key.ExternalDefaultFeatures (spanned a_level) (λ bans. bans.external_default_features)
     ∷ may_hold key.WorkspaceDefaultFeatures (spanned a_level) (λ bans. bans.workspace_default_features)
     ∷ holds_or [] key.Features (a_list a_feature_entry) (λ bans. bans.features)
-    ∷ holds_or [] key.Skip (a_list a_reasoned_entry) (λ bans. bans.skip)
+    ∷ holds_or [] key.Skip (a_list a_waived_entry) (λ bans. bans.skip)
     ∷ holds_or [] key.SkipTree (a_list a_tree_skip_entry) (λ bans. bans.skip_tree)
     ∷ holds_or level.Allow key.Wildcards a_level (λ bans. bans.wildcards)
     ∷ holds_or false key.AllowWildcardPaths a_flag (λ bans. bans.allow_wildcard_paths)

@@ -6,17 +6,21 @@ use Rattle.deny_toml.specs.value.Value.{Value}
 use Rattle.deny_cfg_entries.specs.Entry.{ReadsEntryKeys, entry_fields}
 use Rattle.deny_cfg_entries.specs.Licence.{some_licences}
 use Rattle.deny_cfg_entries.specs.Table.{Entries, Field, ReadsKeys, ReadsTable, TableKey, a_table, faults_of_table}
-use Rattle.deny_cfg_entries.specs.Table.{fields_of, holds_or, must_hold, unread}
-use Rattle.deny_cfg_entries.specs.Words.{Kind, a_flag, a_level, a_list, a_text}
+use Rattle.deny_cfg_entries.specs.Table.{fields_of, holds_or, may_hold, must_hold, unread}
+use Rattle.deny_cfg_entries.specs.Waivers.{an_expiry}
+use Rattle.deny_cfg_entries.specs.Words.{Kind, a_flag, a_level, a_list, a_text, spanned}
 use Rattle.deny_cfg_entries.specs.declared.policy_key.PolicyKey.TheVariants as key
 use Rattle.deny_cfg_tables.specs.declared.licenses.config.Config.{Config}
 use Rattle.deny_cfg_tables.specs.declared.licenses.exception.Exception.{Exception}
 use Rattle.deny_cfg_tables.specs.declared.licenses.exception.ExceptionKeys.{ExceptionKeys}
 use Rattle.deny_cfg_tables.specs.declared.licenses.private.Private.{Private}
 
--- what an entry of `exceptions` gives beside its spec
+-- the keys of an entry of `exceptions` beside those of its spec
 abbrev pub exception_keys : List (TableKey ExceptionKeys)
-exception_keys = must_hold key.Allow some_licences (λ keys. keys.allow) ∷ []
+exception_keys =
+    must_hold key.Allow some_licences (λ keys. keys.allow)
+    ∷ may_hold key.Expires (spanned an_expiry) (λ keys. keys.expires)
+    ∷ []
 
 abbrev pub exception_fields : List Field
 exception_fields = fields_of exception_keys
@@ -28,10 +32,14 @@ ReadsExceptionKeys = ReadsKeys exception_keys
 abbrev pub faults_of_exception : Value → List ConfigFault
 faults_of_exception v = faults_of_table (entry_fields exception_fields) v
 
+-- what an entry of `exceptions` gives beside its spec
+abbrev pub exception_keys_in : Exception → ExceptionKeys
+exception_keys_in exception = record { allow = exception.allow; expires = exception.expires }
+
 abbrev pub ReadsException : Value → Exception → Type 0
 ReadsException v exception =
     ReadsTable
-    (λ entries (read : Exception). ReadsEntryKeys ReadsExceptionKeys entries read.spec (record { allow = read.allow }))
+    (λ entries (read : Exception). ReadsEntryKeys ReadsExceptionKeys entries read.spec (exception_keys_in read))
     v exception
 
 abbrev pub an_exception : Kind Exception

@@ -7,10 +7,10 @@ use Rattle.deny_toml.specs.error.ConfigFault.{ConfigFault}
 use Rattle.deny_toml.specs.value.Value.{Value}
 use Rattle.deny_cfg_entries.specs.declared.policy_key.PolicyKey.TheVariants as key
 use Rattle.deny_cfg_entries.specs.declared.scope.Scope.TheVariants as word
-use Rattle.deny_cfg_entries.specs.Reasons.{a_reasoned_entry}
 use Rattle.deny_cfg_entries.specs.RustVersion.{rust_version_in}
 use Rattle.deny_cfg_entries.specs.Table.{Entries, Field, ReadsKeys, ReadsTable, TableKey, faults_of_table, fields_of}
 use Rattle.deny_cfg_entries.specs.Table.{holds_or, may_hold}
+use Rattle.deny_cfg_entries.specs.Waivers.{a_waived_entry}
 use Rattle.deny_cfg_entries.specs.Words.{Kind, ReadsAs, a_level, a_list, a_scope, faults_as}
 use Rattle.deny_cfg_tables.specs.declared.bans.cfg.std_replacements.StdReplacementConfig.{StdReplacementConfig}
 
@@ -25,7 +25,7 @@ std_keys =
     holds_or word.Workspace key.Scope a_scope (λ std. std.scope)
     ∷ holds_or level.Deny key.Level a_level (λ std. std.level)
     ∷ may_hold key.RustVersion a_rust_version (λ std. std.rust_version)
-    ∷ holds_or [] key.Ignore (a_list a_reasoned_entry) (λ std. std.ignore)
+    ∷ holds_or [] key.Ignore (a_list a_waived_entry) (λ std. std.ignore)
     ∷ holds_or word.None key.IgnoreRustVersion a_scope (λ std. std.ignore_rust_version)
     ∷ []
 

@@ -11,6 +11,7 @@ use Rattle.std.proofs.Math.Seq.{take-suc}
 use Rattle.std.proofs.lemmas.List.{map-append, take-append-drop, take-map, take_all}
 use Rattle.std.proofs.lemmas.Bool.{leb-true}
 use Rattle.std.proofs.lemmas.Option.{none-some}
+use Rattle.deny_cfg_entries.specs.declared.day.Day.{Day}
 use Rattle.deny_spans_workspace.specs.declared.registries.Registry.{Registry}
 use Rattle.deny_cli.specs.Registries.{registries_in}
 use Rattle.deny_cli.specs.Arguments.{PartialArguments, Command, Form, begun, nothing, checking, check_of, generate}
@@ -32,27 +33,29 @@ record IsFillable (form : Form) : Type 0 where
   pub fills : (registries : List Registry)
       → option_and_then (command_of registries) (filled (Some form) rest) ≡ Some (command registries)
 
-fillable_check : (policy metadata replacements home : Option (List ℕ)) → IsFillable (checking (record {
-  policy = policy;
-  metadata = metadata;
-  replacements = replacements;
-  home = home;
-}))
+fillable_check : (policy metadata replacements home : Option (List ℕ)) (today : Option Day)
+    → IsFillable (checking (record {
+      policy = policy;
+      metadata = metadata;
+      replacements = replacements;
+      home = home;
+      today = today;
+    }))
 unfolding step names_file
-fillable_check None None replacements home =
+fillable_check None None replacements home today =
     record { rest = a_path ∷ a_path ∷ []; command = λ registries. _; fills = λ registries. refl }
-fillable_check None (Some metadata) replacements home =
+fillable_check None (Some metadata) replacements home today =
     record { rest = a_path ∷ []; command = λ registries. _; fills = λ registries. refl }
-fillable_check (Some policy) None replacements home =
+fillable_check (Some policy) None replacements home today =
     record { rest = a_path ∷ []; command = λ registries. _; fills = λ registries. refl }
-fillable_check (Some policy) (Some metadata) replacements home =
+fillable_check (Some policy) (Some metadata) replacements home today =
     record { rest = []; command = λ registries. _; fills = λ registries. refl }
 
 fillable : (form : Form) → IsFillable form
 unfolding step names_file count_of is_plain leads_with_zero
 fillable nothing =
     record { rest = codes "check" ∷ a_path ∷ a_path ∷ []; command = λ registries. _; fills = λ registries. refl }
-fillable (checking asked) = fillable_check asked.policy asked.metadata asked.replacements asked.home
+fillable (checking asked) = fillable_check asked.policy asked.metadata asked.replacements asked.home asked.today
 fillable (generating None) =
     record { rest = codes "0" ∷ []; command = λ registries. generate 0; fills = λ registries. refl }
 fillable (generating (Some crates)) =
@@ -201,18 +204,18 @@ few_filled form [] few = few
 few_filled None (argument ∷ arguments) few = few_filled None arguments tt
 few_filled (Some form) (argument ∷ arguments) few = few_filled (step form argument) arguments (few_after form argument)
 
-few_check : (registries : List Registry) (home policy metadata replacements : Option (List ℕ))
-    → IfSome (check_of registries home policy metadata replacements) AsksForFew
-few_check registries home None metadata replacements = tt
-few_check registries home (Some policy) None replacements = tt
-few_check registries home (Some policy) (Some metadata) replacements = tt
+few_check : (registries : List Registry) (today : Option Day) (home policy metadata replacements : Option (List ℕ))
+    → IfSome (check_of registries home today policy metadata replacements) AsksForFew
+few_check registries today home None metadata replacements = tt
+few_check registries today home (Some policy) None replacements = tt
+few_check registries today home (Some policy) (Some metadata) replacements = tt
 
 few_of : (registries : List Registry) (form : Option Form) → IfSome form IsFew
     → IfSome (option_and_then (command_of registries) form) AsksForFew
 few_of registries None few = tt
 few_of registries (Some nothing) few = tt
 few_of registries (Some (checking asked)) few =
-    few_check registries asked.home asked.policy asked.metadata asked.replacements
+    few_check registries asked.today asked.home asked.policy asked.metadata asked.replacements
 few_of registries (Some (generating None)) few = tt
 few_of registries (Some (generating (Some crates))) few = few
 

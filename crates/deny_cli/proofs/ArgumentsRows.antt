@@ -1,8 +1,12 @@
 -- Worked cases of arguments: the commands that lists of arguments ask for, and the lists that are accepted.
-use Rattle.std.proofs.Common.{◌≡◌, [], ◌∷◌, Some, None, codes, refl}
+use Rattle.std.proofs.Common.{◌≡◌, [], ◌∷◌, Some, None, codes, pos, refl}
+use Rattle.jiff_core.specs.Calendar.{day_count, days_from_civil, days_of_months, days_of_years}
+use Rattle.deny_cfg_entries.specs.Day.{day_in, day_of, has_form, is_day}
+use Rattle.deny_cfg_entries.specs.RustVersion.{number_in}
 use Rattle.deny_cli.specs.Home.{home_of}
 use Rattle.deny_cli.specs.Options.{behind}
 use Rattle.deny_cli.specs.Registries.{registries_in, registry_of}
+use Rattle.deny_cli.specs.Today.{day_numbered, today_of}
 use Rattle.deny_cli.specs.Arguments.{check, generate, asked_by, count_of, is_plain, leads_with_zero, names_file, step}
 
 pub asks_for_two : asked_by (codes "check" ∷ codes "deny.toml" ∷ codes "metadata.json" ∷ [])
@@ -12,8 +16,9 @@ pub asks_for_two : asked_by (codes "check" ∷ codes "deny.toml" ∷ codes "meta
       replacements = None;
       home = None;
       registries = [];
+      today = None;
     }))
-unfolding asked_by step names_file home_of registries_in registry_of behind
+unfolding asked_by step names_file home_of registries_in registry_of today_of behind
 asks_for_two = refl
 
 pub asks_for_three : asked_by (codes "check" ∷ codes "a" ∷ codes "b" ∷ codes "c" ∷ [])
@@ -23,28 +28,29 @@ pub asks_for_three : asked_by (codes "check" ∷ codes "a" ∷ codes "b" ∷ cod
       replacements = Some (codes "c");
       home = None;
       registries = [];
+      today = None;
     }))
-unfolding asked_by step names_file home_of registries_in registry_of behind
+unfolding asked_by step names_file home_of registries_in registry_of today_of behind
 asks_for_three = refl
 
 pub asks_for_too_few : asked_by (codes "check" ∷ codes "deny.toml" ∷ []) ≡ None
-unfolding asked_by step names_file home_of registries_in registry_of behind
+unfolding asked_by step names_file home_of registries_in registry_of today_of behind
 asks_for_too_few = refl
 
 pub asks_for_too_many : asked_by (codes "check" ∷ codes "a" ∷ codes "b" ∷ codes "c" ∷ codes "d" ∷ []) ≡ None
-unfolding asked_by step names_file home_of registries_in registry_of behind
+unfolding asked_by step names_file home_of registries_in registry_of today_of behind
 asks_for_too_many = refl
 
 pub asks_by_an_option : asked_by (codes "check" ∷ codes "-a" ∷ codes "b" ∷ []) ≡ None
-unfolding asked_by step names_file home_of registries_in registry_of behind
+unfolding asked_by step names_file home_of registries_in registry_of today_of behind
 asks_by_an_option = refl
 
 pub asks_for_no_name : asked_by (codes "check" ∷ codes "a" ∷ [] ∷ []) ≡ None
-unfolding asked_by step names_file home_of registries_in registry_of behind
+unfolding asked_by step names_file home_of registries_in registry_of today_of behind
 asks_for_no_name = refl
 
 pub asks_for_another : asked_by (codes "checks" ∷ codes "a" ∷ codes "b" ∷ []) ≡ None
-unfolding asked_by step names_file home_of registries_in registry_of behind
+unfolding asked_by step names_file home_of registries_in registry_of today_of behind
 asks_for_another = refl
 
 -- ---- generated crates
@@ -143,24 +149,25 @@ pub asks_with_registries :
       home = None;
       registries = record { name = codes "b"; address = codes "u" } ∷ record { name = codes "a"; address = codes "v" }
           ∷ [];
+      today = None;
     }))
-unfolding asked_by step names_file home_of registries_in registry_of behind
+unfolding asked_by step names_file home_of registries_in registry_of today_of behind
 asks_with_registries = refl
 
 pub asks_behind_a_path : asked_by (codes "check" ∷ codes "p" ∷ codes "--registry=a=v" ∷ codes "m" ∷ []) ≡ None
-unfolding asked_by step names_file home_of registries_in registry_of behind
+unfolding asked_by step names_file home_of registries_in registry_of today_of behind
 asks_behind_a_path = refl
 
 pub asks_behind_all : asked_by (codes "check" ∷ codes "p" ∷ codes "m" ∷ codes "--registry=a=v" ∷ []) ≡ None
-unfolding asked_by step names_file home_of registries_in registry_of behind
+unfolding asked_by step names_file home_of registries_in registry_of today_of behind
 asks_behind_all = refl
 
 pub asks_without_paths : asked_by (codes "check" ∷ codes "--registry=a=v" ∷ []) ≡ None
-unfolding asked_by step names_file home_of registries_in registry_of behind
+unfolding asked_by step names_file home_of registries_in registry_of today_of behind
 asks_without_paths = refl
 
 pub asks_before_check : asked_by (codes "--registry=a=v" ∷ codes "check" ∷ codes "p" ∷ codes "m" ∷ []) ≡ None
-unfolding asked_by step names_file home_of registries_in registry_of behind
+unfolding asked_by step names_file home_of registries_in registry_of today_of behind
 asks_before_check = refl
 
 pub asks_of_a_number : asked_by (codes "generate" ∷ codes "--registry=a=v" ∷ codes "4" ∷ []) ≡ None
@@ -178,8 +185,9 @@ pub asks_for_a_home : asked_by (codes "check" ∷ codes "--home=/c" ∷ codes "p
       replacements = None;
       home = Some (codes "/c");
       registries = [];
+      today = None;
     }))
-unfolding asked_by step names_file home_of registries_in registry_of behind
+unfolding asked_by step names_file home_of registries_in registry_of today_of behind
 asks_for_a_home = refl
 
 -- a home may be named between registries
@@ -193,19 +201,73 @@ pub asks_for_both :
       home = Some (codes "/c");
       registries = record { name = codes "b"; address = codes "u" } ∷ record { name = codes "a"; address = codes "v" }
           ∷ [];
+      today = None;
     }))
-unfolding asked_by step names_file home_of registries_in registry_of behind
+unfolding asked_by step names_file home_of registries_in registry_of today_of behind
 asks_for_both = refl
 
 pub asks_for_two_homes :
     asked_by (codes "check" ∷ codes "--home=/c" ∷ codes "--home=/c" ∷ codes "p" ∷ codes "m" ∷ []) ≡ None
-unfolding asked_by step names_file home_of registries_in registry_of behind
+unfolding asked_by step names_file home_of registries_in registry_of today_of behind
 asks_for_two_homes = refl
 
 pub asks_for_an_empty_home : asked_by (codes "check" ∷ codes "--home=" ∷ codes "p" ∷ codes "m" ∷ []) ≡ None
-unfolding asked_by step names_file home_of registries_in registry_of behind
+unfolding asked_by step names_file home_of registries_in registry_of today_of behind
 asks_for_an_empty_home = refl
 
 pub asks_for_a_home_late : asked_by (codes "check" ∷ codes "p" ∷ codes "--home=/c" ∷ codes "m" ∷ []) ≡ None
-unfolding asked_by step names_file home_of registries_in registry_of behind
+unfolding asked_by step names_file home_of registries_in registry_of today_of behind
 asks_for_a_home_late = refl
+
+-- ---- a day
+
+pub names_a_day : today_of (codes "--today=2026-01-31") ≡ Some (day_numbered (pos 20_484))
+unfolding today_of behind day_in has_form number_in day_of is_day days_from_civil day_count days_of_years
+    days_of_months
+names_a_day = refl
+
+-- a day that the calendar does not have
+pub names_no_day : today_of (codes "--today=2026-02-30") ≡ None
+unfolding today_of behind day_in has_form number_in day_of is_day
+names_no_day = refl
+
+pub names_an_empty_day : today_of (codes "--today=") ≡ None
+unfolding today_of behind day_in has_form
+names_an_empty_day = refl
+
+pub names_a_home_only : today_of (codes "--home=2026-01-31") ≡ None
+unfolding today_of behind
+names_a_home_only = refl
+
+-- a day may be named between a registry and a home
+pub asks_for_a_day :
+    asked_by (codes "check" ∷ codes "--registry=a=v" ∷ codes "--today=2026-01-31" ∷ codes "--home=/c" ∷ codes "p"
+    ∷ codes "m" ∷ [])
+    ≡ Some (check (record {
+      policy = codes "p";
+      metadata = codes "m";
+      replacements = None;
+      home = Some (codes "/c");
+      registries = record { name = codes "a"; address = codes "v" } ∷ [];
+      today = Some (day_numbered (pos 20_484));
+    }))
+unfolding asked_by step names_file home_of registries_in registry_of today_of behind day_in has_form number_in day_of
+    is_day days_from_civil day_count days_of_years days_of_months
+asks_for_a_day = refl
+
+pub asks_for_two_days :
+    asked_by (codes "check" ∷ codes "--today=2026-01-31" ∷ codes "--today=2026-01-31" ∷ codes "p" ∷ codes "m" ∷ [])
+    ≡ None
+unfolding asked_by step names_file home_of registries_in registry_of today_of behind day_in has_form number_in day_of
+    is_day days_from_civil day_count days_of_years days_of_months
+asks_for_two_days = refl
+
+pub asks_for_no_day : asked_by (codes "check" ∷ codes "--today=2026-02-30" ∷ codes "p" ∷ codes "m" ∷ []) ≡ None
+unfolding asked_by step names_file home_of registries_in registry_of today_of behind day_in has_form number_in day_of
+    is_day
+asks_for_no_day = refl
+
+pub asks_for_a_day_late :
+    asked_by (codes "check" ∷ codes "p" ∷ codes "--today=2026-01-31" ∷ codes "m" ∷ []) ≡ None
+unfolding asked_by step names_file home_of registries_in registry_of today_of behind
+asks_for_a_day_late = refl

@@ -14,6 +14,7 @@ use Rattle.deny_base.specs.declared.check.Which.TheVariants.{Policy, Metadata, R
 use Rattle.deny_cfg.specs.PolicyText.{IsPolicyOf}
 use Rattle.deny_cfg.specs.PolicyView.{policy_view}
 use Rattle.deny_cfg.specs.declared.policy.Policy as cfg
+use Rattle.deny_cfg_entries.specs.declared.day.Day.{Day}
 use Rattle.deny_spec.specs.Policy as model
 use Rattle.deny_spec_report.specs.Saying.{HasTable}
 use Rattle.deny_spec_report.specs.StdReplacements.{asks_for_table}
@@ -78,14 +79,15 @@ one_long texts Replacements Replacements h k = refl
 pub record AnswerLaws : Type 0 where
   pub cause : (texts : InputTexts) → (a b : GateError) → a ≢ gate.Memory → b ≢ gate.Memory → IsCause texts a
       → IsCause texts b → AreOneCause a b
-  pub valid : (texts : InputTexts) → (error : GateError) → error ≢ gate.Memory → HasPolicy texts.policy
-      → HasGraph texts.metadata → (AsksForTable texts.policy → HasTable texts.replacements) → IsCause texts error → ⊥
-  pub policies : (text : List ℕ) → (file : ℕ) → (a b : cfg.Policy) → IsPolicyOf text file a → IsPolicyOf text file b
-      → policy_view a.bans ≡ policy_view b.bans
+  pub valid : (texts : InputTexts) → (error : GateError) → error ≢ gate.Memory → HasPolicy texts.today texts.policy
+      → HasGraph texts.metadata → (AsksForTable texts.today texts.policy → HasTable texts.replacements)
+      → IsCause texts error → ⊥
+  pub policies : (today : Option Day) → (text : List ℕ) → (file : ℕ) → (a b : cfg.Policy)
+      → IsPolicyOf today text file a → IsPolicyOf today text file b → policy_view a.bans ≡ policy_view b.bans
 
 -- inputs that have a report have a policy, a graph, and the table that the policy asks for
 has_policy : (told : Option Files) (texts : InputTexts) (report : Report) → IsReportOf told texts report
-    → HasPolicy texts.policy
+    → HasPolicy texts.today texts.policy
 has_policy told texts report of = record { said = of.by.said; is_said = of.by.is_said }
 
 has_graph : (told : Option Files) (texts : InputTexts) (report : Report) → IsReportOf told texts report
@@ -93,9 +95,9 @@ has_graph : (told : Option Files) (texts : InputTexts) (report : Report) → IsR
 has_graph told texts report of = record { read = of.by.is_graph.read; is_read = of.by.is_graph.is_read }
 
 has_table : AnswerLaws → (told : Option Files) (texts : InputTexts) (report : Report) → IsReportOf told texts report
-    → AsksForTable texts.policy → HasTable texts.replacements
+    → AsksForTable texts.today texts.policy → HasTable texts.replacements
 has_table laws told texts report of asked =
-    let one = laws.policies texts.policy policy_id asked.said of.by.said asked.is_said of.by.is_said in
+    let one = laws.policies texts.today texts.policy policy_id asked.said of.by.said asked.is_said of.by.is_said in
     of.by.table (subst (λ (p : model.Policy). IsTrue (asks_for_table p)) one asked.asks)
 
 -- inputs that have a report have no cause of an error
@@ -146,6 +148,7 @@ one_text old (check asked) texts known read is =
       replacements = replacements i;
       home = read.home i;
       registries = read.registries i;
+      today = read.today i;
     }) ∙ there.2
 one_text old (generate crates) texts known made is = made ∙ cc is
 

@@ -24,9 +24,9 @@ pub record MadeLaws : Type 0 where
   pub no_table : (crates : ℕ) → ChecksNoReplacements (policy_text crates)
   pub metadata : (crates : ℕ) → crates < 2 ^ 64 → HasNoFault (metadata_text crates)
 
-asks_for_none : MadeLaws → (crates : ℕ) → AsksForTable (policy_text crates) → ⊥
+asks_for_none : MadeLaws → (crates : ℕ) → AsksForTable None (policy_text crates) → ⊥
 asks_for_none laws crates asked =
-    let none = laws.no_table crates policy_id asked.said asked.is_said in
+    let none = laws.no_table crates None policy_id asked.said asked.is_said in
     let not_asked : asks_for_table (policy_view asked.said.bans) ≡ false =
     ap (λ (active : Option Replacing). option_map_or (λ r. not (looks_at_none r.scope)) active false) none in
     absurd (cc (not_asked, asked.asks))
@@ -35,7 +35,7 @@ pub made_valid : MadeLaws → (old : Disk) (arguments : List (List ℕ)) (crates
     → IsValidRun old arguments
 made_valid laws old arguments crates asks =
     let few : crates ≤ most_crates = asks_for_few arguments (generate crates) asks in
-    let policy = laws.policy crates policy_id in
+    let policy = laws.policy crates None policy_id in
     let metadata = laws.metadata crates (omega (arith, few)) in
     record {
       named = record { command = generate crates; asks = asks; texts = made_inputs crates; known = refl };

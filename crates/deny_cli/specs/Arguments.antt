@@ -9,9 +9,11 @@ use Rattle.std.specs.declared.alloc.Global.{Global}
 use Rattle.deny_base.specs.declared.check.Which.{Which}
 use Rattle.deny_base.specs.declared.check.Which.TheVariants.{Policy, Metadata, Replacements}
 use Rattle.deny_spec.specs.Text.{same_text}
+use Rattle.deny_cfg_entries.specs.declared.day.Day.{Day}
 use Rattle.deny_spans_workspace.specs.declared.registries.Registry.{Registry}
 use Rattle.deny_cli.specs.Home.{home_of}
 use Rattle.deny_cli.specs.Registries.{registries_in, registry_of}
+use Rattle.deny_cli.specs.Today.{today_of}
 
 -- the arguments as texts
 abbrev pub texts : List (String Global) → List (List ℕ)
@@ -44,13 +46,15 @@ count_of argument =
 -- ---- commands
 
 -- the arguments of a check: the paths of its policy and metadata, that of a table of replacements, if one is named,
--- the home, if one is named, and the registries that manifests may name
+-- the home, if one is named, the registries that manifests may name, and the day of which the policy is judged, if one
+-- is named
 pub record CheckArguments : Type 0 where
   pub policy : List ℕ
   pub metadata : List ℕ
   pub replacements : Option (List ℕ)
   pub home : Option (List ℕ)
   pub registries : List Registry
+  pub today : Option Day
 
 pub data Command : Type 0 where
   check : CheckArguments → Command
@@ -64,6 +68,11 @@ path_of (check asked) Metadata = Some asked.metadata
 path_of (check asked) Replacements = asked.replacements
 path_of (generate crates) which = None
 
+-- the day of which the policy of a command is judged; that of a generated one is judged of none
+abbrev pub day_of : Command → Option Day
+day_of (check asked) = asked.today
+day_of (generate crates) = None
+
 -- ---- commands as far as arguments were read
 
 pub record PartialArguments : Type 0 where
@@ -71,6 +80,7 @@ pub record PartialArguments : Type 0 where
   pub metadata : Option (List ℕ)
   pub replacements : Option (List ℕ)
   pub home : Option (List ℕ)
+  pub today : Option Day
 
 pub data Form : Type 0 where
   nothing : Form
@@ -80,7 +90,7 @@ pub data Form : Type 0 where
 
 -- a check without arguments yet
 abbrev pub begun : PartialArguments
-begun = record { policy = None; metadata = None; replacements = None; home = None }
+begun = record { policy = None; metadata = None; replacements = None; home = None; today = None }
 
 -- a path is that of the first input without one
 abbrev pub path_added : PartialArguments → List ℕ → Option PartialArguments
@@ -99,13 +109,19 @@ abbrev pub home_added : PartialArguments → List ℕ → Option PartialArgument
 home_added asked argument = if is_none asked.home
     then option_map (λ home. record asked { home = Some home }) (home_of argument) else None
 
--- Options come before the paths: each names a registry or a home. Registries may be named repeatedly, so the form does
--- not hold them.
+-- the day of an argument, which is named at most once
+abbrev pub today_added : PartialArguments → List ℕ → Option PartialArguments
+today_added asked argument = if is_none asked.today
+    then option_map (λ today. record asked { today = Some today }) (today_of argument) else None
+
+-- Options come before the paths: each names a registry, a home or a day. Registries may be named repeatedly, so the
+-- form does not hold them.
 abbrev pub option_added : PartialArguments → List ℕ → Option PartialArguments
 option_added asked argument =
     if is_some asked.policy then None
     else if is_some (registry_of argument) then Some asked
-    else home_added asked argument
+    else if is_some (home_of argument) then home_added asked argument
+    else today_added asked argument
 
 -- a form with one more argument; none where the argument may not stand there
 unfoldable pub step : Form → List ℕ → Option Form
@@ -123,23 +139,24 @@ filled form [] = form
 filled form (argument ∷ arguments) = filled (option_and_then (λ before. step before argument) form) arguments
 
 -- a check whose policy and metadata have paths
-abbrev pub check_of : List Registry → Option (List ℕ) → Option (List ℕ) → Option (List ℕ) → Option (List ℕ)
-    → Option Command
-check_of registries home None metadata replacements = None
-check_of registries home (Some policy) None replacements = None
-check_of registries home (Some policy) (Some metadata) replacements = Some (check (record {
+abbrev pub check_of : List Registry → Option (List ℕ) → Option Day → Option (List ℕ) → Option (List ℕ)
+    → Option (List ℕ) → Option Command
+check_of registries home today None metadata replacements = None
+check_of registries home today (Some policy) None replacements = None
+check_of registries home today (Some policy) (Some metadata) replacements = Some (check (record {
   policy = policy;
   metadata = metadata;
   replacements = replacements;
   home = home;
   registries = registries;
+  today = today;
 }))
 
 -- the command of a form and the registries that options name; none where something is missing
 abbrev pub command_of : List Registry → Form → Option Command
 command_of registries nothing = None
 command_of registries (checking asked) =
-    check_of registries asked.home asked.policy asked.metadata asked.replacements
+    check_of registries asked.home asked.today asked.policy asked.metadata asked.replacements
 command_of registries (generating crates) = option_map generate crates
 
 -- ---- which arguments are accepted

@@ -23,7 +23,8 @@ use Rattle.deny_gate.specs.declared.report.GateError.TheVariants as gate
 use Rattle.deny_gate.specs.declared.report.Report.{Report}
 use Rattle.deny_cli_generator.specs.MetadataText.{metadata_text}
 use Rattle.deny_cli_generator.specs.PolicyText.{policy_text}
-use Rattle.deny_cli.specs.Arguments.{CheckArguments, Command, check, generate, path_of, Asks, IsAccepted, IsUsageAt}
+use Rattle.deny_cli.specs.Arguments.{CheckArguments, Command, check, day_of, generate, path_of, Asks, IsAccepted}
+use Rattle.deny_cli.specs.Arguments.{IsUsageAt}
 use Rattle.deny_cli.specs.declared.outcome.Outcome.{Outcome}
 use Rattle.deny_cli.specs.declared.outcome.Outcome.TheVariants.{Done, Usage, Read, Long, Gate, Write, Memory}
 
@@ -36,7 +37,7 @@ IsLong text = 2 ^ 28 ≤ length text
 abbrev pub IsShort : List ℕ → Type 0
 IsShort text = length text < 2 ^ 28
 
--- the inputs of a check by the files of a disk, with the home and the registries that it names
+-- the inputs of a check by the files of a disk, with the home, the registries and the day that it names
 abbrev pub inputs_at : Files → CheckArguments → InputTexts
 inputs_at files asked = record {
   policy = bytes_at files asked.policy;
@@ -44,6 +45,7 @@ inputs_at files asked = record {
   replacements = option_map (bytes_at files) asked.replacements;
   home = asked.home;
   registries = asked.registries;
+  today = asked.today;
 }
 
 -- the inputs that are generated for so many crates
@@ -54,6 +56,7 @@ made_inputs crates = record {
   replacements = None;
   home = None;
   registries = [];
+  today = None;
 }
 
 -- the files of the generated disk: the manifest of `app`, the one member
@@ -113,9 +116,10 @@ pub record AreRead (old : Disk) (asked : CheckArguments) (texts : InputTexts) : 
   pub policy : IsReadAt old asked.policy texts.policy
   pub metadata : IsReadAt old asked.metadata texts.metadata
   pub replacements : IsReadIfNamed old asked.replacements texts.replacements
-  -- the home and the registries are those that the check names
+  -- the home, the registries and the day are those that the check names
   pub home : texts.home ≡ asked.home
   pub registries : texts.registries ≡ asked.registries
+  pub today : texts.today ≡ asked.today
 
 -- the inputs of a command: those of a check were read, and others are generated
 abbrev pub AreInputsOf : Disk → Command → InputTexts → Type 0
@@ -207,9 +211,9 @@ pub record AreKnownInputs (old : Disk) (arguments : List (List ℕ)) : Type 0 wh
 pub record IsValidRun (old : Disk) (arguments : List (List ℕ)) : Type 0 where
   pub named : AreKnownInputs old arguments
   pub short : AreShort named.texts
-  pub policy : HasPolicy named.texts.policy
+  pub policy : HasPolicy named.texts.today named.texts.policy
   pub metadata : HasGraph named.texts.metadata
-  pub table : AsksForTable named.texts.policy → HasTable named.texts.replacements
+  pub table : AsksForTable named.texts.today named.texts.policy → HasTable named.texts.replacements
 
 -- inputs stop a run by this outcome: one is long, or all are short and the gate refuses them
 abbrev pub AreRefused : InputTexts → Outcome → Type 0
@@ -265,7 +269,7 @@ pub record ClashesIn (old : Disk) (arguments : List (List ℕ)) (clashes : List 
   pub command : Command
   pub asks : Asks arguments command
   pub read : IsPolicyAt old command policy
-  pub reports : ReportsClashes policy policy_id clashes
+  pub reports : ReportsClashes (day_of command) policy policy_id clashes
   pub labelled : AreLabelledClashes policy clashes
 
 -- where entries of the policy clash, this is its text

@@ -9,6 +9,7 @@ pub mod Outputs
 pub mod Registries
 pub mod Stops
 pub mod Summary
+pub mod Today
 pub mod Unread
 pub mod Values
 pub mod private

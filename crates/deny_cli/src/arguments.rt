@@ -5,18 +5,24 @@ ghost use Rattle.deny_cli.specs.private.Commands.{command_view, form_view, parti
 ghost use Rattle.deny_cli.specs.Registries.{registries_in, registry_of};
 ghost use Rattle.deny_cli.specs.Arguments.{count_of, is_plain, leads_with_zero, home_added, names_file};
 ghost use Rattle.deny_cli.specs.Arguments.{texts, Asks, IsUsageAt, command_of, option_added, path_added, step};
+ghost use Rattle.deny_cli.specs.Arguments.{today_added};
 
 use crate::home::home_of;
 use crate::registries::registry_of;
+use crate::today::today_of;
+use deny_cfg::Day;
+use std::alloc::Global;
 
 /// The arguments of a check: the paths of its policy and metadata, that of a table of replacements, if one
-/// is named; the home, if one is named; and all arguments, since options among them name registries.
+/// is named; the home and the day, if they are named; and all arguments, since options among them name
+/// registries.
 #[derive(Clone, Copy)]
 pub struct CheckArguments<'a> {
     pub policy: &'a str,
     pub metadata: &'a str,
     pub replacements: Option<&'a str>,
     pub home: Option<&'a str>,
+    pub today: Option<Day>,
     pub arguments: &'a [String],
 }
 
@@ -38,6 +44,7 @@ struct PartialArguments<'a> {
     metadata: Option<&'a str>,
     replacements: Option<&'a str>,
     home: Option<&'a str>,
+    today: Option<Day>,
 }
 
 /// A command that is filled argument by argument.
@@ -145,22 +152,46 @@ fn with_home<'a>(asked: PartialArguments<'a>, argument: &'a str) -> Option<Parti
     })
 }
 
+/// A check with the day that an argument names; none where it has one, or the argument names none.
+fn with_today<'a>(
+    alloc: Global,
+    asked: PartialArguments<'a>,
+    argument: &str,
+) -> Option<PartialArguments<'a>>
+    ensures { option_map partial_view result ≡ today_added (partial_view asked.entry) argument.now }
+{
+    if asked.today.is_some() {
+        return None;
+    }
+    let today = today_of(alloc, argument)?;
+    Some(PartialArguments {
+        today: Some(today),
+        ..asked
+    })
+}
+
 /// A check with what an option names; none where no option may stand, or the argument is none.
-fn with_option<'a>(asked: PartialArguments<'a>, argument: &'a str) -> Option<PartialArguments<'a>>
+fn with_option<'a>(
+    alloc: Global,
+    asked: PartialArguments<'a>,
+    argument: &'a str,
+) -> Option<PartialArguments<'a>>
     ensures { option_map partial_view result ≡ option_added (partial_view asked.entry) argument.now }
 {
     if asked.policy.is_some() {
         None
     } else if registry_of(argument).is_some() {
         Some(asked)
-    } else {
+    } else if home_of(argument).is_some() {
         with_home(asked, argument)
+    } else {
+        with_today(alloc, asked, argument)
     }
 }
 
 /// A form with one more argument; none where the argument may not stand there.
 #[tactic(auto, unfolding(crate::specs::Arguments::step))]
-fn step<'a>(form: Form<'a>, argument: &'a str) -> Option<Form<'a>>
+fn step<'a>(alloc: Global, form: Form<'a>, argument: &'a str) -> Option<Form<'a>>
     ensures { option_map form_view result ≡ step (form_view form.entry) argument.now }
 {
     match form {
@@ -169,12 +200,13 @@ fn step<'a>(form: Form<'a>, argument: &'a str) -> Option<Form<'a>>
             metadata: None,
             replacements: None,
             home: None,
+            today: None,
         })),
         Form::Nothing if argument == "generate" => Some(Form::Generating(None)),
         Form::Checking(asked) if names_file(argument) => {
             Some(Form::Checking(with_path(asked, argument)?))
         }
-        Form::Checking(asked) => Some(Form::Checking(with_option(asked, argument)?)),
+        Form::Checking(asked) => Some(Form::Checking(with_option(alloc, asked, argument)?)),
         Form::Generating(None) => Some(Form::Generating(Some(count_of(argument)?))),
         Form::Nothing | Form::Generating(Some(_)) => None,
     }
@@ -192,26 +224,27 @@ fn command_of<'a>(form: Form<'a>, arguments: &'a [String]) -> Option<Command<'a>
             metadata: asked.metadata?,
             replacements: asked.replacements,
             home: asked.home,
+            today: asked.today,
             arguments,
         })),
         Form::Generating(crates) => Some(Command::Generate(crates?)),
     }
 }
 
-/// The command that arguments ask for.
+/// The command that arguments ask for. No memory is taken.
 ///
 /// # Errors
 ///
 /// The index of the first argument at which no accepted list goes on, or how many arguments there are where
 /// they end too early.
-pub fn read_arguments(arguments: &[String]) -> Result<Command<'_>, usize>
+pub fn read_arguments(alloc: Global, arguments: &[String]) -> Result<Command<'_>, usize>
     ensures { MatchResult result
         (λ command. Asks (texts arguments.now) (command_view command))
         (λ at. IsUsageAt (texts arguments.now) at) }
 {
     let mut form = Form::Nothing;
     for (at, argument) in arguments.iter().enumerate() {
-        match step(form, argument.as_str()) {
+        match step(alloc, form, argument.as_str()) {
             Some(next) => form = next,
             None => return Err(at),
         }

@@ -55,6 +55,7 @@ mod registries;
 mod status;
 mod stops;
 mod summary;
+mod today;
 mod unread;
 
 pub use laws::lines_are_json;

@@ -137,6 +137,7 @@ fn inputs_with(
       replacements = option_map (λ bytes. bytes.items) replacements;
       home = (check_view asked.entry).home;
       registries = (check_view asked.entry).registries;
+      today = (check_view asked.entry).today;
     }) }
 {
     let home = asked_home(alloc, asked)?;
@@ -147,6 +148,7 @@ fn inputs_with(
         replacements,
         home,
         registries,
+        today: asked.today,
     })
 }
 
@@ -206,6 +208,7 @@ fn made_inputs(alloc: Global, crates: u32) -> Result<Inputs, NoMemory>
         replacements: None,
         home: None,
         registries: List::new(alloc),
+        today: None,
     })
 }
 
@@ -271,7 +274,7 @@ fn answer_to<'w, D: PackageFiles>(
     ensures later { IsLater (D.seen disk.old) (D.seen disk.new) }
     ensures untouched { (crates : ℕ) → Asks (texts arguments.now) (generate crates) → disk.new ≡ disk.old }
 {
-    let command = match read_arguments(arguments) {
+    let command = match read_arguments(alloc, arguments) {
         Ok(command) => command,
         Err(at) => return Err(without_policy(alloc, Outcome::Usage(at))),
     };
@@ -351,7 +354,8 @@ fn report_stop<E: Out>(alloc: Global, outcome: &Outcome, policy: &[u8], err: &mu
 /// An option `--registry=NAME=ADDRESS` names a registry for the manifests of a workspace: the first `=`
 /// behind the prefix divides the two, and neither is empty. There may be any number, and of one name the
 /// first counts. An option `--home=PATH` names the folder that the paths of package files are shown from;
-/// it is not empty, and stands at most once. No other option is accepted.
+/// it is not empty, and stands at most once. An option `--today=DAY` names the day of which the policy is
+/// judged, as `2026-01-31`: a day of the calendar, at most once. No other option is accepted.
 ///
 /// For a check the inputs at these paths are read from `disk`, in this order, then the manifests of the
 /// graph, and then what the policy asks of packages; the lines of the report go to `out`. For `generate N`

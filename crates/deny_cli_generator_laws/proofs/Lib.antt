@@ -26,3 +26,4 @@ pub mod PolicyTreeLaws
 pub mod PolicyValid
 pub mod PolicyValues
 pub mod PolicyValuesLaws
+pub mod PolicyWaiting

@@ -3,7 +3,7 @@ use Rattle.std.specs.Prelude.{◌+◌, ◌∷◌, [], ℕ, List, None, Some, cod
 use Rattle.deny_base.specs.declared.level.LintLevel.TheVariants as level
 use Rattle.deny_cfg_entries.specs.Spec.{name_span}
 use Rattle.deny_cfg_entries.specs.declared.package_spec.PackageSpec.{PackageSpec}
-use Rattle.deny_cfg_entries.specs.declared.reason.Reason.{Reason}
+use Rattle.deny_cfg_entries.specs.declared.waiver.Waiver.{Waiver}
 use Rattle.deny_cfg_entries.specs.declared.spec_or_extended.PackageSpecOrExtended.{PackageSpecOrExtended}
 use Rattle.deny_cfg_tables.specs.declared.bans.cfg.ban.CrateBanExtended.{CrateBanExtended}
 use Rattle.deny_cfg_tables.specs.declared.bans.cfg.config.Config.{Config}
@@ -24,11 +24,11 @@ skipped_spec v number = record {
   read = read_only_one;
 }
 
-abbrev pub skipped_entry : Value → ℕ → PackageSpecOrExtended Reason
+abbrev pub skipped_entry : Value → ℕ → PackageSpecOrExtended Waiver
 skipped_entry v number = record { spec = skipped_spec v number; inner = None }
 
 -- the entries of a list whose first quote is at an offset
-abbrev pub skipped_from : ℕ → List ℕ → List (PackageSpecOrExtended Reason)
+abbrev pub skipped_from : ℕ → List ℕ → List (PackageSpecOrExtended Waiver)
 skipped_from at [] = []
 skipped_from at (number ∷ numbers) =
     skipped_entry (text_value at (spec_text number)) number
@@ -47,7 +47,7 @@ abbrev pub denied_entry : PackageSpecOrExtended CrateBanExtended
 denied_entry = record { spec = denied_spec; inner = None }
 
 -- the configuration with these entries of `skip`; all else but the level and the denied crate has its default
-abbrev pub config_with : List (PackageSpecOrExtended Reason) → Config
+abbrev pub config_with : List (PackageSpecOrExtended Waiver) → Config
 config_with skipped = record {
   multiple_versions = level.Deny;
   multiple_versions_include_dev = false;

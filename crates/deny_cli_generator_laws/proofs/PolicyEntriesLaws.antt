@@ -1,8 +1,8 @@
 -- Entries that are texts: they have no faults, and what is read from them.
 use Rattle.std.proofs.Common.{◌≡◌, ◌+◌, ◌∷◌, [], ℕ, List, None, Option, Some, ap, length, map, refl, subst, sym, ◌∙◌}
 use Rattle.deny_base.specs.declared.span.Span.{Span}
-use Rattle.deny_cfg_entries.specs.Entry.{ReadsEntry, ReadsEntryBy, faults_of_entry, faults_of_entry_by}
-use Rattle.deny_cfg_entries.specs.Reasons.{ReadsReasonKey, ReadsReasoned}
+use Rattle.deny_cfg_entries.specs.Entry.{ReadsEntry, ReadsEntryBy, ReadsSome, faults_of_entry, faults_of_entry_by}
+use Rattle.deny_cfg_entries.specs.Waivers.{ReadsWaived, ReadsWaiver, waiver_fields}
 use Rattle.deny_cfg_entries.specs.Spec.{ReadsSpecOf, name_span, parts_in, spec_in}
 use Rattle.deny_cfg_entries.specs.Table.{Entries, Field}
 use Rattle.deny_cfg_entries.specs.Words.{ReadsList, faults_of_list, faults_of_meaning}
@@ -54,10 +54,10 @@ pub reads-list : {T : Type 0} (Reads : Value → T → Type 0) (span : Span) (va
 reads-list Reads span values items each = subst (λ vs. ReadsArray Reads vs items) (sym (array-in span values)) each
 
 pub reads-specs : (at : ℕ) (numbers : List ℕ)
-    → ReadsEach ReadsReasoned (values_from at (map spec_text numbers)) (skipped_from at numbers)
+    → ReadsEach ReadsWaived (values_from at (map spec_text numbers)) (skipped_from at numbers)
 reads-specs at [] = tt
 reads-specs at (number ∷ numbers) = (
-  reads-text ReadsReasonKey at (spec_text number) (skipped_spec (text_value at (spec_text number)) number)
-      (spec-in number) refl,
+  reads-text (ReadsSome waiver_fields ReadsWaiver) at (spec_text number)
+      (skipped_spec (text_value at (spec_text number)) number) (spec-in number) refl,
   reads-specs (at + length (in_quotes (spec_text number)) + 2) numbers,
 )

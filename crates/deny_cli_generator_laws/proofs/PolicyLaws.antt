@@ -1,6 +1,6 @@
 -- The text of the policy has no faults and no clashes, and this policy is read from it.
-use Rattle.std.proofs.Common.{◌≡◌, ◌+◌, ◌∷◌, [], ℕ, Contains, List, None, Some, ap, codes, false, find, inl, inr}
-use Rattle.std.proofs.Common.{length, map, refl, subst, sym}
+use Rattle.std.proofs.Common.{◌≡◌, ◌+◌, ◌∷◌, [], ℕ, Contains, List, None, Option, Some, ap, codes, false, find, inl}
+use Rattle.std.proofs.Common.{inr, length, map, refl, subst, sym}
 use Rattle.std.specs.Prelude.{filter}
 use Rattle.std.proofs.lemmas.Bool.{and_right}
 use Rattle.deny_base_lists.proofs.Members.{no_member}
@@ -9,9 +9,11 @@ use Rattle.deny_cfg.specs.Clashes.{IsClash, clash_with, clashes_in, banned_specs
 use Rattle.deny_cfg.specs.PolicyText.{IsPolicyOf, ReadsBans, ReadsLicensing, Says, bans_name, faults_of_tree}
 use Rattle.deny_cfg.specs.PolicyText.{licenses_name}
 use Rattle.deny_cfg.specs.Valid.{IsValidOf}
+use Rattle.deny_cfg.specs.Waiting.{no_today}
 use Rattle.deny_cfg.specs.declared.clash.Clash.{Clash}
 use Rattle.deny_cfg.proofs.OnePolicyLaws.{same_policy}
 use Rattle.deny_cfg_entries.specs.SpecView.{same_spec}
+use Rattle.deny_cfg_entries.specs.declared.day.Day.{Day}
 use Rattle.deny_cli_generator.specs.Made.{below, name_of}
 use Rattle.deny_cli_generator.specs.PolicyText.{name_count, policy_text}
 use Rattle.deny_spec.specs.Policy as model
@@ -32,6 +34,7 @@ use Rattle.deny_cli_generator_laws.proofs.PolicyTextsLaws.{policy-text, specs-pl
 use Rattle.deny_cli_generator_laws.proofs.PolicyTreeLaws.{text-tree}
 use Rattle.deny_cli_generator_laws.proofs.PolicyValues.{bans_value, deny_value, level_value, policy_tree, skip_value}
 use Rattle.deny_cli_generator_laws.proofs.PolicyValues.{tree_of}
+use Rattle.deny_cli_generator_laws.proofs.PolicyWaiting.{is-current, waits-for-none}
 use Rattle.deny_cli_generator_laws.proofs.PolicyValuesLaws.{below-name}
 
 -- ---- the faults of the tree, and what is read from it
@@ -42,13 +45,15 @@ bans_of_tree span bans = below-name bans_name span ((key_at 1 (codes "bans"), ba
 licenses_of_tree : (span : Span) (bans : Value) → below_name licenses_name (tree_of span bans) ≡ None
 licenses_of_tree span bans = below-name licenses_name span ((key_at 1 (codes "bans"), bans) ∷ [])
 
-tree_faultless : (span : Span) (bans : Value) → faults_of_config bans ≡ [] → faults_of_tree (tree_of span bans) ≡ []
+tree_faultless : (today : Option Day) (span : Span) (bans : Value) → no_today today (tree_of span bans) ≡ []
+    → faults_of_config bans ≡ [] → faults_of_tree today (tree_of span bans) ≡ []
 unfolding faults_of_tree in_order
-tree_faultless span bans none =
-    rw (bans_of_tree span bans, licenses_of_tree span bans, none) refl
+tree_faultless today span bans waits none =
+    rw (waits, bans_of_tree span bans, licenses_of_tree span bans, none) refl
 
-says : (numbers : List ℕ) → Says (text_of (map spec_text numbers)) (config_of numbers) None
-says numbers =
+says : (today : Option Day) (numbers : List ℕ)
+    → Says today (text_of (map spec_text numbers)) (config_of numbers) None
+says today numbers =
     let texts = map spec_text numbers in
     let span = whole (text_of texts) in
     let bans = bans_value level_value deny_value (skip_value texts) in
@@ -56,7 +61,8 @@ says numbers =
       utf8 = text-utf8 numbers;
       tree = policy_tree span texts;
       is_tree = text-tree texts (specs-plain numbers);
-      faultless = tree_faultless span bans (bans-faultless numbers);
+      faultless = tree_faultless today span bans (waits-for-none today span level_value deny_value texts)
+          (bans-faultless numbers);
       reads = subst (λ found. ReadsBans found (config_of numbers)) (sym (bans_of_tree span bans)) (reads-bans numbers);
       reads_licenses = subst (λ found. ReadsLicensing found None) (sym (licenses_of_tree span bans)) refl;
     }
@@ -102,12 +108,16 @@ valid file numbers = record {
   build = tt;
 }
 
-said : (file : ℕ) (numbers : List ℕ) → IsPolicyOf (text_of (map spec_text numbers)) file (policy_of file numbers)
-said file numbers = record {
+said : (today : Option Day) (file : ℕ) (numbers : List ℕ)
+    → IsPolicyOf today (text_of (map spec_text numbers)) file (policy_of file numbers)
+said today file numbers = record {
   config = config_of numbers;
-  says = says numbers;
+  licensing = None;
+  says = says today numbers;
   no_clash = no_clash (text_of (map spec_text numbers)) numbers;
+  written = valid_of file numbers;
   valid = valid file numbers;
+  current = is-current today file numbers;
   warnings = refl;
 }
 
@@ -117,15 +127,16 @@ said file numbers = record {
 abbrev numbers_of : ℕ → List ℕ
 numbers_of crates = filter is_skipped (below (name_count crates))
 
-made : (file crates : ℕ) → IsPolicyOf (policy_text crates) file (policy_of file (numbers_of crates))
-made file crates =
-    subst (λ text. IsPolicyOf text file (policy_of file (numbers_of crates))) (sym (policy-text crates))
-    (said file (numbers_of crates))
+made : (today : Option Day) (file crates : ℕ)
+    → IsPolicyOf today (policy_text crates) file (policy_of file (numbers_of crates))
+made today file crates =
+    subst (λ text. IsPolicyOf today text file (policy_of file (numbers_of crates))) (sym (policy-text crates))
+    (said today file (numbers_of crates))
 
 pub is-policy : (crates : ℕ) → IsPolicy (policy_text crates)
-is-policy crates = λ file. (policy_of file (numbers_of crates), made file crates)
+is-policy crates = λ today file. (policy_of file (numbers_of crates), made today file crates)
 
 pub is_on-none : (crates : ℕ) → ChecksNoReplacements (policy_text crates)
-is_on-none crates = λ file said is.
+is_on-none crates = λ today file said is.
     ap (λ (p : model.Policy). p.replacing)
-    (same_policy (policy_text crates) file said (policy_of file (numbers_of crates)) is (made file crates))
+    (same_policy today (policy_text crates) file said (policy_of file (numbers_of crates)) is (made today file crates))

@@ -3,10 +3,10 @@ use Rattle.std.proofs.Common.{◌≡◌, ◌++◌, ◌∷◌, [], ℕ, List, Non
 use Rattle.deny_base.specs.declared.level.LintLevel.TheVariants.{Deny}
 use Rattle.deny_base.specs.declared.span.Span.{Span}
 use Rattle.deny_cfg_entries.specs.PolicyKey.{name_of}
-use Rattle.deny_cfg_entries.specs.Reasons.{ReadsReasoned, faults_of_reasoned, reason_fields}
+use Rattle.deny_cfg_entries.specs.Waivers.{ReadsWaived, faults_of_waived, waiver_fields}
 use Rattle.deny_cfg_entries.specs.Table.{Entries, ReadsIn, ReadsTable, faults_in_table, faults_of_fields, unknown_keys}
 use Rattle.deny_cfg_entries.specs.Words.{ReadsAs, ReadsList, faults_as, faults_of_list, faults_of_text, level_of}
-use Rattle.deny_cfg_entries.specs.declared.reason.Reason.{Reason}
+use Rattle.deny_cfg_entries.specs.declared.waiver.Waiver.{Waiver}
 use Rattle.deny_cfg_entries.specs.declared.spec_or_extended.PackageSpecOrExtended.{PackageSpecOrExtended}
 use Rattle.deny_cfg_tables.specs.Bans.{ReadsBan, ReadsBanEntry, ban_fields, faults_of_ban}
 use Rattle.deny_cfg_tables.specs.Config.{ReadsConfig, bans_fields, faults_of_config}
@@ -34,13 +34,13 @@ faults_at span entries =
     in_order (faults_of_fields bans_fields span entries ++ map unknown (unknown_keys bans_fields entries))
 
 none_at : (span : Span) (level deny skip : Value) → faults_as level_of level ≡ []
-    → faults_of_list faults_of_ban deny ≡ [] → faults_of_list faults_of_reasoned skip ≡ []
+    → faults_of_list faults_of_ban deny ≡ [] → faults_of_list faults_of_waived skip ≡ []
     → faults_at span (bans_entries level deny skip) ≡ []
 unfolding name_of in_order
 none_at span level deny skip one two three = rw (one, two, three) refl
 
 faults_with : (level deny skip : Value) → faults_as level_of level ≡ [] → faults_of_list faults_of_ban deny ≡ []
-    → faults_of_list faults_of_reasoned skip ≡ [] → faults_of_config (bans_value level deny skip) ≡ []
+    → faults_of_list faults_of_waived skip ≡ [] → faults_of_config (bans_value level deny skip) ≡ []
 faults_with level deny skip one two three =
     let v = bans_value level deny skip in
     let entries = bans_entries level deny skip in
@@ -62,17 +62,17 @@ pub bans-faultless : (numbers : List ℕ)
 bans-faultless numbers =
     let texts = map spec_text numbers in
     faults_with level_value deny_value (skip_value texts) level_faultless deny_faultless
-    (faults-list faults_of_reasoned (span_of 55 (length (91 ∷ elements_text texts))) (values_from 56 texts)
-    (faults-specs reason_fields 0 56 numbers))
+    (faults-list faults_of_waived (span_of 55 (length (91 ∷ elements_text texts))) (values_from 56 texts)
+    (faults-specs waiver_fields 0 56 numbers))
 
 -- what is read at one key, and at the keys behind it
 infixr 4 ◌▹◌
 abbrev ◌▹◌ : {A B : Type 0} → A → B → A × B
 a ▹ b = (a, b)
 
-reads_with : (level deny skip : Value) (skipped : List (PackageSpecOrExtended Reason))
+reads_with : (level deny skip : Value) (skipped : List (PackageSpecOrExtended Waiver))
     → ReadsAs level_of level Deny → ReadsList ReadsBanEntry deny (denied_entry ∷ [])
-    → ReadsList ReadsReasoned skip skipped
+    → ReadsList ReadsWaived skip skipped
     → ReadsConfig (bans_entries level deny skip) (config_with skipped)
 unfolding name_of
 reads_with level deny skip skipped one two three = record {
@@ -96,7 +96,7 @@ reads-bans numbers =
     let texts = map spec_text numbers in
     let entries = bans_entries level_value deny_value (skip_value texts) in
     let reads = reads_with level_value deny_value (skip_value texts) (skipped_from 56 numbers) reads_level reads_deny
-    (reads-list ReadsReasoned (span_of 55 (length (91 ∷ elements_text texts))) (values_from 56 texts)
+    (reads-list ReadsWaived (span_of 55 (length (91 ∷ elements_text texts))) (values_from 56 texts)
     (skipped_from 56 numbers) (reads-specs 56 numbers)) in
     subst (λ t. ReadsIn ReadsConfig t (config_of numbers)) (sym (table-in (span_of 1 4) entries))
     (subst (λ es. ReadsConfig es (config_of numbers)) (sym (entries_are entries)) reads)

@@ -29,4 +29,10 @@ valid_of file numbers = record {
 }
 
 abbrev pub policy_of : ℕ → List ℕ → Policy
-policy_of file numbers = record { bans = valid_of file numbers; licenses = None; warnings = [] }
+policy_of file numbers = record {
+  bans = valid_of file numbers;
+  licenses = None;
+  expired = [];
+  expired_waivers = [];
+  warnings = [];
+}

@@ -5,7 +5,7 @@ use Rattle.deny_base.specs.Code.{is_reported_here}
 use Rattle.deny_base.specs.declared.code.Code.{Code}
 use Rattle.deny_base.specs.declared.code.Code.TheVariants as code
 use Rattle.deny_base.specs.declared.code.DiagnosticCode.{DiagnosticCode}
-use Rattle.deny_base.specs.declared.code.DiagnosticCode.TheVariants.{Deprecated, Bans, License}
+use Rattle.deny_base.specs.declared.code.DiagnosticCode.TheVariants.{Deprecated, Bans, License, Expired}
 use Rattle.deny_base.specs.declared.key.Key.{Key}
 use Rattle.deny_spec_report.specs.Circumstances.{Circumstances, tabled}
 use Rattle.deny_spec_report.specs.EachCode.{message_as}
@@ -32,6 +32,7 @@ message_untabled : (d : DiagnosticCode) (c : Circumstances) (table : List ℕ) (
 message_untabled Deprecated c table key here = refl
 message_untabled (Bans d) c table key here = message_as_untabled d c table key here
 message_untabled (License d) c table key here = refl
+message_untabled Expired c table key here = refl
 
 pub reported_untabled : (c : Circumstances) (table : List ℕ) (keys : List Key) → AreReportedHere keys
     → map (key_pack (tabled c table)) keys ≡ map (key_pack c) keys

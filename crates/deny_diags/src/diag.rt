@@ -29,9 +29,9 @@ use deny_base::{Code, DiagnosticCode, Key, LicenseCode, Pack};
 use deny_base_lists::{List, NoMemory};
 use deny_diags_build::{
     AtHand, bypassed_by_glob_diag, checksum_match_diag, checksum_mismatch_diag,
-    denied_by_extension_diag, deprecated_diag, detected_diag, features_enabled_diag,
-    path_bypassed_diag, script_denied_diag, script_diag, unable_to_check_diag,
-    unmatched_bypass_diag, unmatched_glob_diag, unmatched_path_diag,
+    denied_by_extension_diag, detected_diag, features_enabled_diag, path_bypassed_diag,
+    script_denied_diag, script_diag, unable_to_check_diag, unmatched_bypass_diag,
+    unmatched_glob_diag, unmatched_path_diag,
 };
 use deny_diags_manifests::{
     unresolved_diag, unused_entry_diag, wildcard_diag, workspace_duplicate_diag,
@@ -45,8 +45,8 @@ use deny_spec_report::{Message, pack_of};
 use std::alloc::Global;
 
 /// Appends the findings of keys that hold, in their order, one pack a key: of every code but those of what
-/// the standard library replaces and those of licences. Where memory runs out, the findings of the first keys
-/// were appended, or none.
+/// the standard library replaces, those of licences, and those of the policy's own warnings. Where memory
+/// runs out, the findings of the first keys were appended, or none.
 pub fn report_all(
     alloc: Global,
     found: &Matches<'_>,
@@ -130,7 +130,6 @@ fn key_message(
     ensures { IfOk result (λ diag. diag ≡ key_message (circumstances_from writer.now) key.now) }
 {
     match key.code {
-        DiagnosticCode::Deprecated => deprecated_diag(alloc, &writer.ctx, key),
         DiagnosticCode::Bans(code) => message_as(alloc, writer, at, code, key),
         DiagnosticCode::License(code) => match code {
             LicenseCode::Accepted
@@ -141,6 +140,7 @@ fn key_message(
             | LicenseCode::LicenseNotEncountered
             | LicenseCode::LicenseExceptionNotEncountered => unreachable!(),
         },
+        DiagnosticCode::Deprecated | DiagnosticCode::Expired => unreachable!(),
     }
 }
 

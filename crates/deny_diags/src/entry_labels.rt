@@ -11,7 +11,7 @@ use crate::writer::DiagWriter;
 use deny_base::{FileId, Label, Span, Spanned};
 use deny_base_lists::{List, NoMemory, Text};
 use deny_cfg::bans::cfg::{CrateAllow, CrateSkip, KrateBan, TreeSkipExtended};
-use deny_cfg::{PackageSpec, PackageSpecOrExtended};
+use deny_cfg::{PackageSpec, PackageSpecOrExtended, Waiver};
 use deny_diags_parts::{Labels, lone_label, secondary};
 use std::alloc::Global;
 
@@ -140,8 +140,13 @@ fn reason_of_skip(entry: &CrateSkip) -> Option<&Spanned<Text>>
     ensures { option_map (λ w. w.now) result ≡ (entry_view entry.now).reason }
 {
     match &entry.inner {
-        Some(reason) => Some(&reason.0),
-        None => None,
+        Some(
+            Waiver {
+                reason: Some(reason),
+                ..
+            },
+        ) => Some(&reason.0),
+        _ => None,
     }
 }
 

@@ -12,7 +12,7 @@ use crate::entry_labels::skip_labels_at;
 use crate::writer::DiagWriter;
 use deny_base::{Key, Severity, Span};
 use deny_base_lists::{NoMemory, Text};
-use deny_cfg::PackageSpec;
+use deny_cfg::{PackageSpec, spec_text};
 use deny_diags_parts::plainly;
 use deny_spec_report::Message;
 use std::alloc::Global;
@@ -93,16 +93,4 @@ fn of_spec(alloc: Global, before: &str, spec: &PackageSpec, after: &str) -> Resu
 {
     let spec = spec_text(alloc, spec)?;
     Ok(Text::from_string(format!(in alloc; "{before}{spec}{after}")?))
-}
-
-// The name of a spec, and its requirement as it is written.
-#[tactic(auto, unfolding(deny_spec::specs::DiagParts::spec_text))]
-fn spec_text(alloc: Global, spec: &PackageSpec) -> Result<Text, NoMemory>
-    ensures { IfOk result (λ text. text ≡ spec_text (spec_view spec.now)) }
-{
-    let name = &spec.name.value;
-    match &spec.req_text {
-        Some(written) => Ok(Text::from_string(format!(in alloc; "{name} = {written}")?)),
-        None => Ok(name.clone()?),
-    }
 }

@@ -4,7 +4,6 @@
 
 mod at_hand;
 mod by_text;
-mod deprecated;
 mod files;
 mod globs;
 mod message;
@@ -15,7 +14,6 @@ mod sums;
 mod unmatched;
 
 pub use at_hand::AtHand;
-pub use deprecated::deprecated_diag;
 pub use files::{
     bypassed_by_glob_diag, denied_by_extension_diag, detected_diag, path_bypassed_diag,
     script_diag, unable_to_check_diag,

@@ -1,5 +1,5 @@
 -- The circumstances that findings are made from: a configuration and a graph, with what was seen of manifests and of
--- packages, and the number of the lock text.
+-- packages, and the number of the lock text. No waiver expired in them: a configuration has none that did.
 use Rattle.std.specs.Prelude.{List}
 use Rattle.deny_spec.specs.declared.package.Package.{Package}
 use Rattle.deny_cfg.specs.PolicyView.{building_of, builtin_file_of, policy_view}

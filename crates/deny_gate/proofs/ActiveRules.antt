@@ -23,9 +23,11 @@ use Rattle.deny_spec.specs.Licensing.{Licensing}
 use Rattle.deny_spec.specs.Policy.{Policy, Replacing}
 use Rattle.deny_spec.specs.DiagParts.{crate_at}
 use Rattle.deny_spec.specs.Building.{Building}
+use Rattle.deny_spec.specs.Expired.{PastWaiver}
 use Rattle.deny_spec_report.specs.BuildScripts.{is_active}
 use Rattle.deny_spec_report.specs.Circumstances.{Circumstances}
 use Rattle.deny_spec_report.specs.EachCode.{LicenseHolds, message_licensed}
+use Rattle.deny_spec_report.specs.Expired.{expired_diag_of}
 use Rattle.deny_spec_report.specs.Features.{default_level, default_severity}
 use Rattle.deny_spec_report.specs.Licences.{accepted_diag, exception_not_encountered_diag, skipped_private_diag}
 use Rattle.deny_spec_report.specs.Members.{is_member}
@@ -86,6 +88,13 @@ pub ignore_is_mild : (o : Option Replacing) (file : ℕ) (k : Key)
 unfolding unmatched_ignore_diag
 ignore_is_mild None file k = refl
 ignore_is_mild (Some r) file k = refl
+
+-- ---- the policy's own warnings
+
+pub no_expired_error : (file : ℕ) (o : Option PastWaiver)
+    → is_error (option_map_or (expired_diag_of file) o not_built).severity ≡ true → ⊥
+no_expired_error file None error = false≢true error
+no_expired_error file (Some w) error = false≢true error
 
 -- ---- rules on features
 

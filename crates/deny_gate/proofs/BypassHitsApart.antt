@@ -93,8 +93,12 @@ module _ (v : ValidBypass) (users : HasUsers v.allow_globs) where
   abbrev paths : List Span
   paths = flat_map path_spans v.allow
 
+  -- the span of the last day
+  abbrev last : List Span
+  last = of_some own_span v.expires
+
   name_there : Contains (bypass_spans v) (bypass_span y)
-  name_there = Contains-first (bypass_span y) (sums ++ (features ++ (globs ++ (paths ++ []))))
+  name_there = Contains-first (bypass_span y) (sums ++ (features ++ (globs ++ (paths ++ (last ++ [])))))
 
   -- a span of the globs is one of the bypass
   glob_behind : (r : Span) → Contains globs r → Contains (bypass_spans v) r
@@ -104,7 +108,7 @@ module _ (v : ValidBypass) (users : HasUsers v.allow_globs) where
   path_behind : (r : Span) → Contains paths r → Contains (bypass_spans v) r
   path_behind r at = Contains-append_right (spec_span v.spec) _ r
       (Contains-append_right sums _ r (Contains-append_right features _ r (Contains-append_right globs _ r
-      (Contains-append_left paths [] r at))))
+      (Contains-append_left paths (last ++ []) r at))))
 
   path_there : (file : BypassPath) → Contains v.allow file → Contains (bypass_spans v) file.path.span
   path_there file at = path_behind file.path.span (Contains-flat_map path_spans v.allow file file.path.span at
@@ -157,7 +161,7 @@ module _ (v : ValidBypass) (users : HasUsers v.allow_globs) where
   -- ---- two hits of one entry
 
   module _ (apart : AreApart (bypass_spans v)) where
-    behind_features : AreApart (globs ++ (paths ++ []))
+    behind_features : AreApart (globs ++ (paths ++ (last ++ [])))
     behind_features = apart_right features _ (apart_right sums _ (apart_right (spec_span v.spec) _ apart))
 
     one_path : (a b : AllowedPath) → Contains y.allow a → Contains y.allow b → path_span a ≡ path_span b → a ≡ b
@@ -166,7 +170,7 @@ module _ (v : ValidBypass) (users : HasUsers v.allow_globs) where
         let z = from_contains_map path_view v.allow b at_b in
         let spans : x.0.path.span ≡ z.0.path.span = ap path_span x.2 ∙ (same ∙ sym (ap path_span z.2)) in
         let one : x.0 ≡ z.0 = one_of path_spans v.allow x.0 z.0 x.0.path.span
-        (apart_left paths [] (apart_right globs _ behind_features)) x.1 z.1
+        (apart_left paths (last ++ []) (apart_right globs _ behind_features)) x.1 z.1
         (Contains-first x.0.path.span (of_some own_span x.0.checksum ++ []))
         (subst (Contains (path_spans z.0)) (sym spans)
         (Contains-first z.0.path.span (of_some own_span z.0.checksum ++ []))) in

@@ -48,9 +48,9 @@ no_table_cause p texts replacements Memory same graph cause = tt
 
 -- the text that was read is that of the policy in the inputs
 module _ (texts : InputTexts) (said : Policy) (read : List ℕ) (same : read ≡ texts.policy)
-    (handed : IsPolicyOf read policy_id said) where
-  of_text : IsPolicyOf texts.policy policy_id said
-  of_text = subst (λ (text : List ℕ). IsPolicyOf text policy_id said) same handed
+    (handed : IsPolicyOf texts.today read policy_id said) where
+  of_text : IsPolicyOf texts.today texts.policy policy_id said
+  of_text = subst (λ (text : List ℕ). IsPolicyOf texts.today text policy_id said) same handed
 
   by_rest : (error : GateError) → IsCauseBehind (policy_view said.bans) texts error → IsCause texts error
   by_rest (Metadata f) cause = (record { said = said; is_said = of_text }, cause)

@@ -1,5 +1,6 @@
 -- The labels of clashes mark spans of the policy's text, which is the only file.
-use Rattle.std.proofs.Common.{◌≡◌, ℕ, Bool, true, false, List, [], ◌∷◌, Result, Ok, Err, refl, sym, subst}
+use Rattle.std.proofs.Common.{◌≡◌, ℕ, Bool, true, false, List, [], ◌∷◌, Option, Result, Ok, Err, refl, sym}
+use Rattle.std.proofs.Common.{subst}
 use Rattle.std.specs.Prelude.{All, IfErr, codes, if◌then◌else◌, map}
 use Rattle.std.specs.List.{AllByRecursion}
 use Rattle.std.specs.Result.{IsErrAnd}
@@ -11,6 +12,7 @@ use Rattle.deny_cfg.specs.Clashes.{clash_labels, label_of, one_label, clash_diag
 use Rattle.deny_cfg.specs.LabelSpans.{reported_spans}
 use Rattle.deny_cfg.specs.PolicyText.{ReportsClashes}
 use Rattle.deny_cfg.specs.declared.clash.Clash.{Clash}
+use Rattle.deny_cfg_entries.specs.declared.day.Day.{Day}
 use Rattle.deny_cfg.specs.declared.clash.ClashKind.{ClashKind}
 use Rattle.deny_cfg.specs.declared.clash.ClashKind.TheVariants as clash
 use Rattle.deny_cfg.proofs.Among.{lie_prefix, lie_rest}
@@ -70,29 +72,30 @@ module _ (text : List ℕ) where
       (labels_placed labels (reported_in_file policy_id c) (lie_prefix (IsClashSpan text) first others lie))
       (reported_placed cs (lie_rest (IsClashSpan text) first others lie))
 
-  clashes_labelled : (clashes : List Diagnostic) → ReportsClashes text policy_id clashes
+  clashes_labelled : (today : Option Day) (clashes : List Diagnostic) → ReportsClashes today text policy_id clashes
       → AreLabelledClashes text clashes
-  clashes_labelled clashes reports =
+  clashes_labelled today clashes reports =
       let lie = recursion_from_All (IsClashSpan text) (reported_spans clashes) reports.located in
       subst (λ (ds : List Diagnostic). AreLabelledClashes text ds) (sym reports.are.is)
       (reported_placed reports.are.clashes (subst (λ (ds : List Diagnostic). Lie (IsClashSpan text) (reported_spans ds))
       reports.are.is lie))
 
-  cause_labelled : (error : GateError) → IsPolicyCause text error → IsLabelledCause text error
-  cause_labelled (Invalid clashes) cause = clashes_labelled clashes cause
-  cause_labelled (Config faults) cause = tt
-  cause_labelled (Metadata f) cause = tt
-  cause_labelled (Replacement at) cause = tt
-  cause_labelled Memory cause = tt
+  cause_labelled : (today : Option Day) (error : GateError) → IsPolicyCause today text error
+      → IsLabelledCause text error
+  cause_labelled today (Invalid clashes) cause = clashes_labelled today clashes cause
+  cause_labelled today (Config faults) cause = tt
+  cause_labelled today (Metadata f) cause = tt
+  cause_labelled today (Replacement at) cause = tt
+  cause_labelled today Memory cause = tt
 
 -- the error of a policy in the inputs has its labels in that text
-pub policy_cause_labelled : (policy text : List ℕ) (result : Result Report GateError) (error : GateError)
-    → text ≡ policy → IsErrAnd result (λ e. e ≡ error) → IsPolicyCause text error
+pub policy_cause_labelled : (today : Option Day) (policy text : List ℕ) (result : Result Report GateError)
+    (error : GateError) → text ≡ policy → IsErrAnd result (λ e. e ≡ error) → IsPolicyCause today text error
     → IfErr result (IsLabelledCause policy)
-policy_cause_labelled policy text (Ok report) error same is cause = absurd is
-policy_cause_labelled policy text (Err handed) error same is cause =
+policy_cause_labelled today policy text (Ok report) error same is cause = absurd is
+policy_cause_labelled today policy text (Err handed) error same is cause =
     subst (λ (e : GateError). IsLabelledCause policy e) (sym is)
-    (subst (λ (t : List ℕ). IsLabelledCause t error) same (cause_labelled text error cause))
+    (subst (λ (t : List ℕ). IsLabelledCause t error) same (cause_labelled text today error cause))
 
 -- an error that comes behind the policy is no clash
 no_clash : (policy : List ℕ) (p : Policy) (texts : InputTexts) (error : GateError) → IsCauseBehind p texts error

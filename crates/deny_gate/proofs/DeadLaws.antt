@@ -143,7 +143,7 @@ without_unhit law stay told texts report of =
       packages = of.packages;
       by = by;
       can = λ taken unhit kept. reports_the_rest law c taken report is unhit kept stay
-          (sums_differ texts.policy by.said by.is_said);
+          (sums_differ texts.today texts.policy by.said by.is_said);
       sees = λ taken unhit. seen_without stay told c is.listed.facts is.counts taken texts.home
           (of_packages report.unread) is.listed.true_facts (in_place texts.metadata by.graph by.is_graph)
           (no_hit c taken report is unhit) by.packages_seen;

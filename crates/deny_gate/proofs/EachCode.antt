@@ -7,11 +7,12 @@ use Rattle.deny_base_lists.proofs.Members.{Contains-from_flat_map}
 use Rattle.deny_base.specs.declared.code.Code.{Code}
 use Rattle.deny_base.specs.declared.code.Code.TheVariants as code
 use Rattle.deny_base.specs.declared.code.DiagnosticCode.{DiagnosticCode}
-use Rattle.deny_base.specs.declared.code.DiagnosticCode.TheVariants.{Deprecated, Bans, License}
+use Rattle.deny_base.specs.declared.code.DiagnosticCode.TheVariants.{Deprecated, Bans, License, Expired}
 use Rattle.deny_base.specs.declared.entry.EntryId.{EntryId}
 use Rattle.deny_base.specs.declared.files.File.{File}
 use Rattle.deny_base.specs.declared.key.Key.{Key}
 use Rattle.deny_spec.specs.Bans.{wrapper_of}
+use Rattle.deny_spec.specs.Expired.{past_waiver_at}
 use Rattle.deny_spec.specs.Duplicates.{duplicate_level, is_denied_multiple}
 use Rattle.deny_spec.specs.Policy.{Ban, SpannedText}
 use Rattle.deny_spec.specs.DiagParts.{allow_labels, crate_at, ban_labels, entry_labels, root_labels}
@@ -22,6 +23,7 @@ use Rattle.deny_spec_report.specs.Bans.{allowed_by_wrapper_diag, banned_diag, un
 use Rattle.deny_spec_report.specs.Circumstances.{Circumstances}
 use Rattle.deny_spec_report.specs.Duplicates.{duplicate_diag}
 use Rattle.deny_spec_report.specs.EachCode.{message_as, HoldsAs}
+use Rattle.deny_spec_report.specs.Expired.{expired_diag}
 use Rattle.deny_spec_report.specs.Facts.{Facts}
 use Rattle.deny_spec_report.specs.Features.{default_enabled_diag, default_level, default_severity, feature_banned_diag}
 use Rattle.deny_spec_report.specs.Features.{feature_not_allowed_diag, mismatched_diag, unknown_feature_diag}
@@ -44,9 +46,10 @@ use Rattle.deny_spec_report.specs.Wildcards.{wildcard_diag, unresolved_diag}
 use Rattle.deny_spec_report.specs.Wrappers.{unused_wrapper_diag}
 use Rattle.deny_spec_removal.specs.Removal.{without_in}
 use Rattle.deny_gate.specs.Labels.{ArePlaced}
-use Rattle.deny_gate.specs.private.Labels.{licence_spans}
+use Rattle.deny_gate.specs.private.Labels.{licence_spans, past_spans}
 use Rattle.deny_gate.specs.Report.{is_error}
 use Rattle.deny_gate.proofs.BuildEntries.{entry_known, older_known}
+use Rattle.deny_gate.proofs.ExpiredLabels.{of_expired}
 use Rattle.deny_gate.proofs.Found.{of_found}
 use Rattle.deny_gate.proofs.LabelLaws.{AreSpans, LabelsOf, all_placed, at_build_entry, at_entry, built}
 use Rattle.deny_gate.proofs.LabelLaws.{by_extension_placed, by_glob_placed, features_placed, in_policy, list_labelled}
@@ -58,7 +61,8 @@ use Rattle.deny_gate.proofs.LabelLaws.{of_unused_wrapper, of_wrapper, wrapper_in
 use Rattle.deny_gate.proofs.ManifestLabels.{duplicate_placed, no_labels, unresolved_placed, unused_placed}
 use Rattle.deny_gate.proofs.ManifestLabels.{wildcard_placed}
 use Rattle.deny_gate.proofs.ActiveRules.{IsGrave, default_active, grave_licensed, ignore_is_mild, mild_features}
-use Rattle.deny_gate.proofs.ActiveRules.{mild_glob, active_by, no_build_error, some_are, wildcard_error}
+use Rattle.deny_gate.proofs.ActiveRules.{mild_glob, active_by, no_build_error, no_expired_error, some_are}
+use Rattle.deny_gate.proofs.ActiveRules.{wildcard_error}
 use Rattle.deny_gate.proofs.BuildErrors.{denied_active, files_active, mismatch_active}
 use Rattle.deny_gate.proofs.Severities.{MismatchAlike, built_alike, ignore_alike, licensed_alike, replaced_alike}
 
@@ -124,6 +128,7 @@ by_alike : (d : DiagnosticCode) (c : Circumstances) (taken : List EntryId) (key 
 by_alike Deprecated c taken key coded sums = refl
 by_alike (Bans d) c taken key coded sums = as_alike d c taken key coded sums
 by_alike (License d) c taken key coded sums = licensed_alike d taken c.licensing c.graph c.files.policy key
+by_alike Expired c taken key coded sums = refl
 
 pub severity_alike : (c : Circumstances) (taken : List EntryId) (key : Key) → MismatchAlike c taken key
     → (key_message (without_in c taken) key).severity ≡ (key_message c key).severity
@@ -195,11 +200,13 @@ grave_code code.UnmatchedGlob c facts k coded is error = absurd (false≢true er
 
 pub grave : (d : DiagnosticCode) (c : Circumstances) (facts : Facts) (k : Key) → k.code ≡ d → HoldsBy d c facts k
     → is_error (message_by d c k).severity ≡ true → IsGrave c.policy c.licensing c.building d
-unfolding deprecated_diag
+unfolding deprecated_diag expired_diag
 grave Deprecated c facts k coded is error = absurd (false≢true error)
 grave (Bans d) c facts k coded is error = grave_code d c facts k coded is error
 grave (License d) c facts k coded is error = inr
     (grave_licensed d c.policy c.licensing c.building c.graph c.files.policy k is error)
+grave Expired c facts k coded is error =
+    absurd (no_expired_error c.files.policy (past_waiver_at c.expired k.entry) error)
 
 -- ---- the labels of a finding mark spans
 
@@ -304,3 +311,6 @@ module _ (c : Circumstances) (facts : Facts) (text : List ℕ) (files : List Fil
   labels_of_key (License d) key coded is =
       all_placed files (licence_spans c.licensing) text c.files.policy (message_by (License d) c key).labels
       are.policy_there are.first are.of_licences (of_licence d c.licensing c.graph c.files.policy key is)
+  labels_of_key Expired key coded is =
+      all_placed files (past_spans c.expired) text c.files.policy (message_by Expired c key).labels
+      are.policy_there are.first are.of_expired (of_expired c.files.policy c.expired key)

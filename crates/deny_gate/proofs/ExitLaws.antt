@@ -8,7 +8,7 @@ use Rattle.std.proofs.lemmas.Bool.Decides.{nat_tests}
 use Rattle.deny_base.specs.declared.check.Check.{Check}
 use Rattle.deny_base.specs.declared.check.Check.TheVariants as check
 use Rattle.deny_base.specs.declared.code.DiagnosticCode.{DiagnosticCode}
-use Rattle.deny_base.specs.declared.code.DiagnosticCode.TheVariants.{Deprecated, Bans, License}
+use Rattle.deny_base.specs.declared.code.DiagnosticCode.TheVariants.{Deprecated, Bans, License, Expired}
 use Rattle.deny_base.specs.declared.key.Key.{Key}
 use Rattle.deny_base.specs.declared.level.Severity.{Severity}
 use Rattle.deny_base.specs.declared.level.Severity.TheVariants as severity
@@ -74,6 +74,7 @@ of_bans : (d : DiagnosticCode) (c : Circumstances) (facts : Facts) (key : Key) �
 of_bans Deprecated c facts key none is = refl
 of_bans (Bans d) c facts key none is = refl
 of_bans (License d) c facts key none is = absurd (none_licensed d c.licensing c.graph key none is)
+of_bans Expired c facts key none is = refl
 
 passes_licences : (c : Circumstances) (facts : Facts) (key : Key) → c.licensing ≡ None → Holds c facts key
     → fails_as check.Licenses (finding_for c key) ≡ false

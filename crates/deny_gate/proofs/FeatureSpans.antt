@@ -1,7 +1,7 @@
 -- The list `allow` and the flag `exact` of an entry of `features`, where a label may mark them, are spans of the policy's
 -- text.
-use Rattle.std.proofs.Common.{◌≡◌, ◌==◌, ℕ, Bool, true, false, List, [], ◌∷◌, Option, None, Some, length, map, not, refl}
-use Rattle.std.proofs.Common.{subst, sym}
+use Rattle.std.proofs.Common.{◌≡◌, ◌∙◌, ◌==◌, ℕ, Bool, true, false, List, [], ◌∷◌, Option, None, Some, length, map, not}
+use Rattle.std.proofs.Common.{ap, refl, subst, sym}
 use Rattle.std.specs.List.{flat_map}
 use Rattle.deny_base.specs.declared.span.Span.{Span}
 use Rattle.deny_base.specs.declared.span.Spanned.{Spanned}
@@ -20,9 +20,11 @@ use Rattle.deny_cfg_tables.specs.Config.{ReadsConfig}
 use Rattle.deny_cfg_tables.specs.Features.{ReadsCrateFeatures, ReadsFeatures, lists_in, nowhere}
 use Rattle.deny_cfg_tables.specs.declared.bans.cfg.config.Config.{Config}
 use Rattle.deny_cfg_tables.specs.declared.bans.cfg.features.CrateFeatures.{CrateFeatures}
+use Rattle.deny_cfg.specs.Current.{current_bans}
 use Rattle.deny_cfg.specs.Marks.{IsMarkIn, IsPolicySpan}
 use Rattle.deny_cfg.specs.PolicyText.{IsPolicyOf, ReadsBans, bans_name}
 use Rattle.deny_cfg.specs.Valid.{features_of}
+use Rattle.deny_cfg.specs.declared.bans.cfg.valid.ValidConfig.{ValidConfig}
 use Rattle.deny_cfg.specs.declared.bans.cfg.valid.ValidKrateFeatures.{ValidKrateFeatures}
 use Rattle.deny_cfg.proofs.Among.{lie_prefix, lie_rest}
 use Rattle.deny_cfg.proofs.LabelConfig.{key_lies}
@@ -31,6 +33,7 @@ use Rattle.deny_cfg.proofs.LabelLaws.{table_inside}
 use Rattle.deny_gate.specs.Report.{policy_id}
 use Rattle.deny_gate.specs.private.Labels.{list_and_flag, span_if}
 use Rattle.deny_cfg.specs.declared.policy.Policy.{Policy}
+use Rattle.deny_cfg_entries.specs.declared.day.Day.{Day}
 
 -- the spans of an entry as it is written, and of one that was read
 abbrev written_spans : CrateFeatures → List Span
@@ -103,12 +106,14 @@ taken P (f ∷ fs) lie =
     (taken P fs (lie_rest P first others lie))
 
 -- the lists and flags of the features of a policy are spans of its text
-pub spans_lie : (text : List ℕ) (said : Policy) → IsPolicyOf text policy_id said
+pub spans_lie : (today : Option Day) (text : List ℕ) (said : Policy) → IsPolicyOf today text policy_id said
     → Lie (IsPolicySpan text) (flat_map feature_spans said.bans.features)
-spans_lie text said is =
+unfolding current_bans
+spans_lie today text said is =
     let says = is.says in
     let of = says.is_tree in
-    subst (λ (fs : List ValidKrateFeatures). Lie (IsPolicySpan text) (flat_map feature_spans fs)) (sym is.valid.features)
+    subst (λ (fs : List ValidKrateFeatures). Lie (IsPolicySpan text) (flat_map feature_spans fs))
+    (sym (ap (λ (bans : ValidConfig). bans.features) is.current.bans ∙ is.valid.features))
     (taken (IsPolicySpan text) is.config.features
     (key_lies text bans_name says.tree (flat_map written_spans is.config.features) says.is_tree
     (tree_holds text of.0 _ says.tree says.utf8 of.1 refl of.3)

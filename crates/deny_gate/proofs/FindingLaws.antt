@@ -1,6 +1,7 @@
--- The findings of packs by their keys, and the hits: those of the bans check, and then those of the licence check.
+-- The findings by their keys: those of the policy's own warnings, then those of the bans check, and then those of the
+-- licence check; and the hits of both checks.
 use Rattle.std.proofs.Common.{◌≡◌, ◌++◌, ℕ, Bool, false, List, [], ◌∷◌, Option, None, Some, length, refl, sym, ap, subst, ◌∙◌}
-use Rattle.std.specs.Prelude.{filter, is_some, map}
+use Rattle.std.specs.Prelude.{Contains, filter, is_some, map}
 use Rattle.std.specs.List.{flat_map}
 use Rattle.std.specs.List.Sorted.{IsStrictlySortedBy}
 use Rattle.std.proofs.lemmas.List.{append-nil, map-append}
@@ -18,9 +19,10 @@ use Rattle.deny_base_lists.proofs.Options.{is_some-option_map}
 use Rattle.deny_base_lists.proofs.Equalities.{subst₃}
 use Rattle.deny_cfg.specs.LicensingView.{licensing_of, licensing_view}
 use Rattle.deny_cfg.specs.PolicyText.{policy_files}
-use Rattle.deny_cfg.specs.PolicyView.{AreGlobsRead, building_of, builtin_file_of, policy_view}
+use Rattle.deny_cfg.specs.PolicyView.{AreGlobsRead, building_of, builtin_file_of, past_waivers_of, policy_view}
 use Rattle.deny_cfg.specs.declared.policy.Policy as cfg
 use Rattle.deny_krates.specs.Read.{IsGraphOf}
+use Rattle.deny_spec.specs.Expired.{PastWaiver, expired_keys}
 use Rattle.deny_spec.specs.Graph.{Crate, Graph}
 use Rattle.deny_spec.specs.Licensing.{Licensing}
 use Rattle.deny_spec.specs.View.{View}
@@ -31,17 +33,18 @@ use Rattle.deny_spans.specs.Spans.{ViewLies}
 use Rattle.deny_spans.specs.Seen.{IsSeen, lock_file}
 use Rattle.deny_base.specs.Unread.{unread_cmp}
 use Rattle.deny_base.specs.declared.unread.Unread.{Unread}
-use Rattle.deny_spec_report.specs.Circumstances.{Circumstances, built, licensed, seen_by, tabled, with_packages}
-use Rattle.deny_spec_report.specs.Codes.{is_of_bans, is_of_licenses}
+use Rattle.deny_spec_report.specs.Circumstances.{Circumstances, built, licensed, seen_by, tabled, with_expired}
+use Rattle.deny_spec_report.specs.Circumstances.{with_packages}
+use Rattle.deny_spec_report.specs.Codes.{is_of_bans, is_of_licenses, is_of_policy}
 use Rattle.deny_spec_report.specs.Facts.{Facts}
 use Rattle.deny_spec_report.specs.Hits.{TestsLicensed, both_hits, hits_in, licence_hits_in}
 use Rattle.deny_spec_report.specs.Saying.{bytes_of, said_by}
 use Rattle.deny_spec_report.specs.Holding.{ListsOwn, Holds, HoldsIn}
 use Rattle.deny_spec_report.specs.Diags.{diag_of, pack_of, key_pack, key_message}
+use Rattle.deny_spec_report.specs.Packages.{deprecated_keys_in}
 use Rattle.deny_rules_dup_edges.specs.DupEdges.{ShowsEach, is_of_duplicate}
 use Rattle.deny_rules.specs.Check.{IsChecked}
 use Rattle.deny_rules.specs.declared.check.BansEnd.{BansEnd}
-use Rattle.deny_rules_dup_edges.specs.declared.dup_edges.DupEdges.{DupEdges}
 use Rattle.deny_spec_removal.specs.Dead.{AreDead}
 use Rattle.deny_gate.specs.private.Gating.{AreEntriesApart, Extras, IsLicensedIf, IsPolicyReport, IsReportSeen}
 use Rattle.deny_gate.specs.Gating.{IsTableFor}
@@ -52,6 +55,7 @@ use Rattle.deny_gate.specs.Hits.{AreHits}
 use Rattle.deny_gate.specs.private.Hits.{IsOneEach}
 use Rattle.deny_gate.specs.Report.{finding_for, keys_in, lock_id, policy_id, verdict_of}
 use Rattle.deny_gate.specs.private.Report.{findings_of}
+use Rattle.deny_gate.specs.private.Warnings.{AreAllFindings, AreWarnings}
 use Rattle.deny_gate.specs.Stats.{all_stats}
 use Rattle.deny_gate.specs.Unread.{of_manifests, of_packages}
 use Rattle.deny_gate.specs.declared.checks.GraphResults.{GraphResults}
@@ -59,7 +63,7 @@ use Rattle.deny_gate.specs.declared.checks.CheckResults.{CheckResults}
 use Rattle.deny_gate.specs.declared.report.Finding.{Finding}
 use Rattle.deny_gate.specs.declared.report.Report.{Report}
 use Rattle.deny_gate.proofs.HitsApart.{hits_apart}
-use Rattle.deny_gate.proofs.FindingKeys.{no_duplicate, none_of_licences}
+use Rattle.deny_gate.proofs.FindingKeys.{no_duplicate, no_duplicate_warned, none_of_licences}
 
 -- the pack of a key gives one finding
 one_each : (c : Circumstances) (key : Key) → findings_of (key_pack c key) ≡ finding_for c key ∷ []
@@ -90,14 +94,22 @@ pub severity_of_finding : (c d : Circumstances) (key : Key) → (key_message d k
 unfolding finding_for diag_of
 severity_of_finding c d key same = same
 
--- the laws on the two checks
+-- the laws on the policy's own warnings and the two checks
 pub record CheckLaws : Type 0 where
   pub keys : (c : Circumstances) → (licensing : Option Licensing) → (facts : Facts) → (keys : List Key)
       → ListsOwn is_of_bans c facts keys → ListsOwn is_of_bans (licensed c licensing) facts keys
   pub packs : (c : Circumstances) → (licensing : Option Licensing) → (facts : Facts) → (key : Key)
       → HoldsIn is_of_bans c facts key → key_pack (licensed c licensing) key ≡ key_pack c key
-  pub joined : (c : Circumstances) → (facts : Facts) → (xs ys : List Key) → ListsOwn is_of_bans c facts xs
-      → ListsOwn is_of_licenses c facts ys → Lists key_cmp (Holds c facts) (xs ++ ys)
+  pub unexpired : (c : Circumstances) → (waivers : List PastWaiver) → (facts : Facts) → (keys : List Key)
+      → ListsOwn is_of_bans c facts keys → ListsOwn is_of_bans (with_expired c waivers) facts keys
+  pub unexpired_packs : (c : Circumstances) → (waivers : List PastWaiver) → (facts : Facts) → (key : Key)
+      → HoldsIn is_of_bans c facts key → key_pack (with_expired c waivers) key ≡ key_pack c key
+  pub warned : (c : Circumstances) → (facts : Facts) → (keys : List Key)
+      → Lists key_cmp (Contains (deprecated_keys_in c ++ expired_keys c.expired)) keys
+      → ListsOwn is_of_policy c facts keys
+  pub joined : (c : Circumstances) → (facts : Facts) → (ws xs ys : List Key) → ListsOwn is_of_policy c facts ws
+      → ListsOwn is_of_bans c facts xs → ListsOwn is_of_licenses c facts ys
+      → Lists key_cmp (Holds c facts) (ws ++ (xs ++ ys))
 
 -- the packs that the licence check adds, key by key, and its hits
 record LicenceKeys (c : Circumstances) (facts : Facts) (old new : List Pack) (hits : List Hit) : Type 0 where
@@ -108,23 +120,24 @@ record LicenceKeys (c : Circumstances) (facts : Facts) (old new : List Pack) (hi
   reports : TestsLicensed c.licensing c.graph counts
   hits_are : hits ≡ licence_hits_in counts c
 
--- no key of the licence check is of a duplicate
-no_duplicates : (c : Circumstances) (facts : Facts) (keys : List Key) → ListsOwn is_of_licenses c facts keys
+-- keys of which none is of a duplicate
+no_duplicates : (keys : List Key) → ((key : Key) → Contains keys key → is_of_duplicate key ≡ false)
     → filter is_of_duplicate keys ≡ []
-no_duplicates c facts keys listed =
-    filter_on is_of_duplicate (λ (key : Key). false) keys (λ key at. no_duplicate c facts key (listed.sound key at))
-    ∙ filter-none (λ (key : Key). false) keys (λ key. refl)
+no_duplicates keys none =
+    filter_on is_of_duplicate (λ (key : Key). false) keys none ∙ filter-none (λ (key : Key). false) keys (λ key. refl)
 
--- duplicates are shown of the keys of the bans check alone
-shown_of_all : (c : Circumstances) (facts : Facts) (bans licences : List Key) (shown : List DupEdges)
-    → ListsOwn is_of_licenses c facts licences
-    → ShowsEach c.policy c.graph (filter is_of_duplicate bans) shown
-    → ShowsEach c.policy c.graph (filter is_of_duplicate (bans ++ licences)) shown
-shown_of_all c facts bans licences shown listed each =
-    subst (λ (keys : List Key). ShowsEach c.policy c.graph keys shown)
-    (sym (filter-append is_of_duplicate bans licences
-    ∙ (ap (λ (keys : List Key). filter is_of_duplicate bans ++ keys) (no_duplicates c facts licences listed)
-    ∙ append-nil (filter is_of_duplicate bans)))) each
+-- the duplicates among all keys are those of the bans check
+duplicates_of_bans : (c : Circumstances) (facts : Facts) (warned bans licences : List Key)
+    → ListsOwn is_of_policy c facts warned → ListsOwn is_of_licenses c facts licences
+    → filter is_of_duplicate (warned ++ (bans ++ licences)) ≡ filter is_of_duplicate bans
+duplicates_of_bans c facts warned bans licences own listed =
+    filter-append is_of_duplicate warned (bans ++ licences)
+    ∙ (ap (λ (keys : List Key). keys ++ filter is_of_duplicate (bans ++ licences))
+    (no_duplicates warned (λ key at. no_duplicate_warned c facts key (own.sound key at)))
+    ∙ (filter-append is_of_duplicate bans licences
+    ∙ (ap (λ (keys : List Key). filter is_of_duplicate bans ++ keys)
+    (no_duplicates licences (λ key at. no_duplicate c facts key (listed.sound key at)))
+    ∙ append-nil (filter is_of_duplicate bans))))
 
 -- without a section on licences no key of the licence check holds
 none_listed : (c : Circumstances) (facts : Facts) → c.licensing ≡ None → ListsOwn is_of_licenses c facts []
@@ -164,42 +177,55 @@ checked_by said g table file lock view packages =
 
 module _ (laws : CheckLaws) where
   -- the results of both checks: the packs of the bans check, put behind none, and those of the licence check behind
-  -- these
-  results_of_both : (c : Circumstances) (licensing : Option Licensing) (none between packs : List Pack) (end : BansEnd)
-      (others : List Hit) (results : CheckResults) → IsChecked c none between end → none ≡ []
+  -- these; their findings stand behind those of the policy's own warnings
+  results_of_both : (c : Circumstances) (licensing : Option Licensing) (waivers : List PastWaiver)
+      (none between packs : List Pack) (end : BansEnd) (others : List Hit) (warnings : List Finding)
+      (results : CheckResults) → IsChecked c none between end → none ≡ []
       → IsLicensedIf licensing c.graph c.files.policy between packs others
-      → AreHits (end.hits ++ others) results.hits → results.findings ≡ flat_map findings_of packs
-      → results.dup_edges ≡ end.dup_edges → AreResults (licensed c licensing) results
-  results_of_both c licensing none between packs end others results checked empty reports hit are shown =
-      let all = licensed c licensing in
+      → AreWarnings (with_expired (licensed c licensing) waivers) warnings
+      → AreHits (end.hits ++ others) results.hits → results.findings ≡ warnings ++ flat_map findings_of packs
+      → results.dup_edges ≡ end.dup_edges → AreResults (with_expired (licensed c licensing) waivers) results
+  results_of_both c licensing waivers none between packs end others warnings results checked empty reports warned hit
+      are shown =
+      let all = with_expired (licensed c licensing) waivers in
       let facts = checked.listed.facts in
-      let more = licence_keys c licensing facts between packs others reports in
-      let bans : ListsOwn is_of_bans all facts checked.keys =
+      let more = licence_keys (with_expired c waivers) licensing facts between packs others reports in
+      let with_licences : ListsOwn is_of_bans (licensed c licensing) facts checked.keys =
       laws.keys c licensing facts checked.keys checked.listed.listed in
+      let bans : ListsOwn is_of_bans all facts checked.keys =
+      laws.unexpired (licensed c licensing) waivers facts checked.keys with_licences in
       let alike : map (key_pack c) checked.keys ≡ map (key_pack all) checked.keys =
       map_on (key_pack c) (key_pack all) checked.keys
-      (λ key at. sym (laws.packs c licensing facts key (checked.listed.listed.sound key at))) in
+      (λ key at. sym (laws.packs c licensing facts key (checked.listed.listed.sound key at))
+      ∙ sym (laws.unexpired_packs (licensed c licensing) waivers facts key (with_licences.sound key at))) in
       let first : between ≡ map (key_pack all) checked.keys =
       checked.reported ∙ (ap (λ (ps : List Pack). ps ++ map (key_pack c) checked.keys) empty ∙ alike) in
       let together : packs ≡ map (key_pack all) (checked.keys ++ more.keys) =
       more.packs ∙ (ap (λ (ps : List Pack). ps ++ map (key_pack all) more.keys) first
       ∙ sym (map-append (key_pack all) checked.keys more.keys)) in
+      let found : flat_map findings_of packs ≡ map (finding_for all) (checked.keys ++ more.keys) =
+      ap (flat_map findings_of) together ∙ findings_of_packs all (checked.keys ++ more.keys) in
       let hits : end.hits ++ others ≡ both_hits all facts more.counts =
       ap (λ (hs : List Hit). hs ++ others) checked.hits
       ∙ ap (λ (hs : List Hit). hits_in all facts ++ hs) more.hits_are in
+      let own : ListsOwn is_of_policy all facts warned.keys = laws.warned all facts warned.keys warned.listed in
       record {
-        keys = checked.keys ++ more.keys;
+        keys = warned.keys ++ (checked.keys ++ more.keys);
         listed = record {
           facts = facts;
           true_facts = record {
             chains = checked.listed.true_facts.chains;
             reached = checked.listed.true_facts.reached;
           };
-          listed = laws.joined all facts checked.keys more.keys bans more.listed;
+          listed = laws.joined all facts warned.keys checked.keys more.keys own bans more.listed;
         };
-        findings = are ∙ (ap (flat_map findings_of) together ∙ findings_of_packs all (checked.keys ++ more.keys));
-        shown = subst (ShowsEach c.policy c.graph (filter is_of_duplicate (checked.keys ++ more.keys))) (sym shown)
-            (shown_of_all all facts checked.keys more.keys end.dup_edges more.listed checked.dup_edges);
+        findings = are ∙ (ap (λ (fs : List Finding). fs ++ flat_map findings_of packs) warned.are
+            ∙ (ap (λ (fs : List Finding). map (finding_for all) warned.keys ++ fs) found
+            ∙ sym (map-append (finding_for all) warned.keys (checked.keys ++ more.keys))));
+        shown = subst (ShowsEach c.policy c.graph (filter is_of_duplicate (warned.keys ++ (checked.keys ++ more.keys))))
+            (sym shown)
+            (subst (λ (keys : List Key). ShowsEach c.policy c.graph keys end.dup_edges)
+            (sym (duplicates_of_bans all facts warned.keys checked.keys more.keys own more.listed)) checked.dup_edges);
         counts = more.counts;
         reports = more.reports;
         hits = subst (λ (hs : List Hit). AreHits hs results.hits) hits hit;
@@ -212,17 +238,19 @@ module _ (laws : CheckLaws) where
       → file ≡ policy_id → lock ≡ lock_id (builtin_file_of said.bans)
       → IsChecked (checked_by said g (bytes_of replacements) file lock view packages) none between end
       → none ≡ [] → IsLicensedIf (licensing_of said.licenses) g file between packs others
-      → AreHits (end.hits ++ others) results.hits → results.findings ≡ flat_map findings_of packs
+      → AreHits (end.hits ++ others) results.hits → AreAllFindings said packs results.findings
       → results.dup_edges ≡ end.dup_edges → AreResults (circumstances_of said g replacements view packages) results
   results_are said g replacements file lock view packages none between packs end others results first second checked
-      empty reports hit are shown =
+      empty reports hit found shown =
       let l = licensing_of said.licenses in
-      let at : ℕ → ℕ → Circumstances =
-      λ m n. licensed (checked_by said g (bytes_of replacements) m n view packages) l in
-      subst (λ (m : ℕ). AreResults (at m (lock_id (builtin_file_of said.bans))) results) first
-      (subst (λ (n : ℕ). AreResults (at file n) results) second
-      (results_of_both (checked_by said g (bytes_of replacements) file lock view packages) l none between packs
-      end others results checked empty reports hit are shown))
+      let at : ℕ → ℕ → Circumstances = λ m n. checked_by said g (bytes_of replacements) m n view packages in
+      let here : IsChecked (at policy_id (lock_id (builtin_file_of said.bans))) none between end =
+      subst (λ (m : ℕ). IsChecked (at m (lock_id (builtin_file_of said.bans))) none between end) first
+      (subst (λ (n : ℕ). IsChecked (at file n) none between end) second checked) in
+      results_of_both (at policy_id (lock_id (builtin_file_of said.bans))) l (past_waivers_of said) none between packs
+      end others found.warnings results here empty
+      (subst (λ (m : ℕ). IsLicensedIf l g m between packs others) first reports)
+      (found.are_own g replacements view packages) hit found.followed shown
 
 -- no two hits of both checks have the same entry, where no two entries have the same span
 pub hits_differ : (said : cfg.Policy) (g : Graph) (table : List ℕ) (file lock : ℕ) (view : View)

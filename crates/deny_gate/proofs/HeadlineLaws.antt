@@ -9,7 +9,7 @@ use Rattle.deny_base_lists.specs.Ascending.{Lists}
 use Rattle.deny_base.specs.KeyOrder.{key_cmp}
 use Rattle.deny_base.specs.declared.check.Check.TheVariants as check
 use Rattle.deny_base.specs.declared.code.DiagnosticCode.{DiagnosticCode}
-use Rattle.deny_base.specs.declared.code.DiagnosticCode.TheVariants.{Deprecated, Bans, License}
+use Rattle.deny_base.specs.declared.code.DiagnosticCode.TheVariants.{Deprecated, Bans, License, Expired}
 use Rattle.deny_base.specs.declared.key.Key.{Key}
 use Rattle.deny_base_lists.proofs.Members.{Contains-filter, filtered, from_contains_map, passes_filter}
 use Rattle.deny_spec.specs.Building.{Building}
@@ -18,6 +18,7 @@ use Rattle.deny_cfg.specs.LicensingView.{licensing_of}
 use Rattle.deny_cfg.specs.PolicyText.{IsPolicyOf}
 use Rattle.deny_cfg.specs.PolicyView.{building_of, policy_view}
 use Rattle.deny_cfg.specs.declared.policy.Policy as cfg
+use Rattle.deny_cfg_entries.specs.declared.day.Day.{Day}
 use Rattle.deny_spec.specs.Licensing.{Licensing}
 use Rattle.deny_spec.specs.Policy.{Policy}
 use Rattle.deny_spec.specs.View.{View}
@@ -117,6 +118,7 @@ of_one false d = refl
 of_one true Deprecated = refl
 of_one true (Bans d) = refl
 of_one true (License d) = refl
+of_one true Expired = refl
 
 fails_as_one : (c : Circumstances) (key : Key)
     → (fails_as check.Bans (finding_for c key) || fails_as check.Licenses (finding_for c key))
@@ -194,12 +196,13 @@ written_code : (text : List ℕ) (d : DiagnosticCode) (o : Option DiagnosticCode
     → WritesRuleOf text o
 written_code text d o same written = subst (WritesRuleOf text) (sym same) written
 
-other_written : (text : List ℕ) (said : cfg.Policy) (f : Finding) → IsPolicyOf text policy_id said
+other_written : (today : Option Day) (text : List ℕ) (said : cfg.Policy) (f : Finding)
+    → IsPolicyOf today text policy_id said
     → IsGraveFinding (policy_view said.bans) (licensing_of said.licenses) (building_of said.bans) f
     → IsTrue (is_crate_error f) ⊎ WritesRuleOf text f.diag.diag.code
-other_written text said f is (inl rule) = inl rule
-other_written text said f is (inr other) = inr
-    (written_code text other.0 f.diag.diag.code other.1 (rule_written text said is other.0 other.2))
+other_written today text said f is (inl rule) = inl rule
+other_written today text said f is (inr other) = inr
+    (written_code text other.0 f.diag.diag.code other.1 (rule_written today text said is other.0 other.2))
 
 others_of : (told : Option Files) (texts : InputTexts) (view : View) (packages : List Package) (report : Report)
     (by : IsReportBy told texts view packages report) (f : Finding)
@@ -208,7 +211,7 @@ others_of : (told : Option Files) (texts : InputTexts) (view : View) (packages :
 others_of told texts view packages report by f at error =
     let is = by.is_report in
     let c : Circumstances = circumstances_of by.said by.graph texts.replacements view packages in
-    other_written texts.policy by.said f by.is_said
+    other_written texts.today texts.policy by.said f by.is_said
     (grave_findings c is.listed.facts is.keys is.listed.listed.sound f
     (subst (λ (fs : List Finding). Contains fs f) is.findings at) error)
 

@@ -17,8 +17,8 @@ use Rattle.deny_base.specs.declared.span.Span.{Span}
 use Rattle.deny_base.specs.declared.span.Spanned.{Spanned}
 use Rattle.deny_spdx.specs.declared.requirement.Requirement.{Requirement}
 use Rattle.deny_cfg_entries.specs.SpecView.{spec_view}
-use Rattle.deny_cfg_entries.specs.declared.reason.Reason.{Reason}
 use Rattle.deny_cfg_entries.specs.declared.spec_or_extended.PackageSpecOrExtended.{PackageSpecOrExtended}
+use Rattle.deny_cfg_entries.specs.declared.waiver.Waiver.{Waiver}
 use Rattle.deny_cfg_tables.specs.declared.bans.cfg.std_replacements.StdReplacementConfig.{StdReplacementConfig}
 use Rattle.deny_cfg_tables.specs.declared.bans.cfg.tree_skip.TreeSkipExtended.{TreeSkipExtended}
 use Rattle.deny_cfg_tables.specs.declared.licenses.config.Config.{Config}
@@ -61,7 +61,7 @@ unfolding skip_hit
 skip_hit_entry g f s h is = by_crate kind.Skip s.spec.span (find (is_skipped f s) g.crates) h is
 
 -- two entries with nothing but names are equal where their spans are
-one_entry : (es : List (PackageSpecOrExtended Reason)) (x y : Entry) → AreApart (flat_map (with_spec no_span) es)
+one_entry : (es : List (PackageSpecOrExtended Waiver)) (x y : Entry) → AreApart (flat_map (with_spec no_span) es)
     → Contains (map entry_view es) x → Contains (map entry_view es) y → x.spec.span ≡ y.spec.span → x ≡ y
 one_entry es x y apart at_x at_y same =
     let e = from_contains_map entry_view es x at_x in
@@ -72,10 +72,10 @@ one_entry es x y apart at_x at_y same =
     (subst (Contains (with_spec no_span d.0)) (sym names) (named d.0)) in
     sym e.2 ∙ (ap entry_view one ∙ d.2)
   where
-    named : (e : PackageSpecOrExtended Reason) → Contains (with_spec no_span e) e.spec.name.span
+    named : (e : PackageSpecOrExtended Waiver) → Contains (with_spec no_span e) e.spec.name.span
     named e = Contains-first e.spec.name.span (of_some no_span e.inner)
 
-skips_part : (g : Graph) (f : chains.Facts) (es : List (PackageSpecOrExtended Reason))
+skips_part : (g : Graph) (f : chains.Facts) (es : List (PackageSpecOrExtended Waiver))
     → AreApart (flat_map (with_spec no_span) es) → Part 0 0 (filter_map (skip_hit g f) (map entry_view es))
 unfolding entry_kind_number
 skips_part g f es apart = given_part kind.Skip (λ (s : Entry). s.spec.span) (skip_hit g f) (skip_hit_entry g f)

@@ -79,7 +79,7 @@ use Rattle.deny_spec_removal.proofs.Asking.{used_member}
 use Rattle.deny_gate.specs.Labels.{ArePlaced, IsPlaced}
 use Rattle.deny_gate.specs.private.Labels.{AreLockLines, build_spans, building_spans, built_in_globs}
 use Rattle.deny_gate.specs.private.Labels.{built_in_spans, features_spans, level_spans, licence_spans, own_span}
-use Rattle.deny_gate.specs.private.Labels.{span_of}
+use Rattle.deny_gate.specs.private.Labels.{past_spans, span_of}
 use Rattle.deny_gate.specs.private.Labels.{spans_of}
 use Rattle.deny_gate.specs.Report.{lock_id, policy_id}
 use Rattle.deny_gate.proofs.BuildEntries.{feature_there, glob_there, of_bypass, of_extension}
@@ -464,6 +464,7 @@ pub record AreSpans (c : Circumstances) (text : List ℕ) (files : List File) : 
   pub of_policy : All (IsPolicySpan text) (spans_of c.policy)
   pub of_licences : All (IsPolicySpan text) (licence_spans c.licensing)
   pub of_builds : All (IsPolicySpan text) (build_spans c.building)
+  pub of_expired : All (IsPolicySpan text) (past_spans c.expired)
   pub of_globs : All (IsSpan builtin_file.source) (built_in_spans c.building)
   pub one_feature : (d e : FeatureEntry) → Contains c.policy.features d → Contains c.policy.features e
       → d.spec.span ≡ e.spec.span → d ≡ e

@@ -15,6 +15,7 @@ pub mod DeadLaws
 pub mod DeadRows
 pub mod EachCode
 pub mod ExitLaws
+pub mod ExpiredLabels
 pub mod FeatureSpans
 pub mod FindingKeys
 pub mod FindingLaws
@@ -42,4 +43,5 @@ pub mod Severities
 pub mod SumsApart
 pub mod Unseeing
 pub mod Violations
+pub mod WarningLaws
 pub mod WrittenRules

@@ -22,8 +22,9 @@ use Rattle.deny_spec.specs.Building.{Building}
 use Rattle.deny_spec.specs.declared.package.Package.{Package}
 use Rattle.deny_cfg.specs.LicensingView.{licensing_of}
 use Rattle.deny_cfg.specs.PolicyText.{IsPolicyOf, globs_files, policy_file}
-use Rattle.deny_cfg.specs.PolicyView.{building_of, builtin_file_of, policy_view}
+use Rattle.deny_cfg.specs.PolicyView.{building_of, builtin_file_of, past_waivers_of, policy_view}
 use Rattle.deny_cfg.specs.declared.policy.Policy as cfg
+use Rattle.deny_cfg_entries.specs.declared.day.Day.{Day}
 use Rattle.deny_spec.specs.Graph.{Graph}
 use Rattle.deny_spec.specs.Policy.{Policy}
 use Rattle.deny_spec.specs.View.{View}
@@ -125,14 +126,16 @@ pub record ReportLaws : Type 0 where
       → AreKeys (seen_anew c view packages) ys → unseeing xs ≡ unseeing ys
   pub words : (c : Circumstances) → (view : View) → (packages : List Package) → (key : Key)
       → IsTrue (asks_no_file key.code) → key_message (seen_anew c view packages) key ≡ key_message c key
-  pub policies : (text : List ℕ) → (file : ℕ) → (a b : cfg.Policy) → IsPolicyOf text file a → IsPolicyOf text file b
-      → policy_view a.bans ≡ policy_view b.bans
-  pub buildings : (text : List ℕ) → (file : ℕ) → (a b : cfg.Policy) → IsPolicyOf text file a → IsPolicyOf text file b
-      → building_of a.bans ≡ building_of b.bans
-  pub globs : (text : List ℕ) → (file : ℕ) → (a b : cfg.Policy) → IsPolicyOf text file a → IsPolicyOf text file b
-      → builtin_file_of a.bans ≡ builtin_file_of b.bans
-  pub licences : (text : List ℕ) → (file : ℕ) → (a b : cfg.Policy) → IsPolicyOf text file a → IsPolicyOf text file b
-      → licensing_of a.licenses ≡ licensing_of b.licenses
+  pub policies : (today : Option Day) → (text : List ℕ) → (file : ℕ) → (a b : cfg.Policy)
+      → IsPolicyOf today text file a → IsPolicyOf today text file b → policy_view a.bans ≡ policy_view b.bans
+  pub buildings : (today : Option Day) → (text : List ℕ) → (file : ℕ) → (a b : cfg.Policy)
+      → IsPolicyOf today text file a → IsPolicyOf today text file b → building_of a.bans ≡ building_of b.bans
+  pub globs : (today : Option Day) → (text : List ℕ) → (file : ℕ) → (a b : cfg.Policy)
+      → IsPolicyOf today text file a → IsPolicyOf today text file b → builtin_file_of a.bans ≡ builtin_file_of b.bans
+  pub licences : (today : Option Day) → (text : List ℕ) → (file : ℕ) → (a b : cfg.Policy)
+      → IsPolicyOf today text file a → IsPolicyOf today text file b → licensing_of a.licenses ≡ licensing_of b.licenses
+  pub expired : (today : Option Day) → (text : List ℕ) → (file : ℕ) → (a b : cfg.Policy)
+      → IsPolicyOf today text file a → IsPolicyOf today text file b → past_waivers_of a ≡ past_waivers_of b
   pub sight : (b : Building) → (g : Graph) → HasOneSight b g
 
 -- the finding of a key by its message
@@ -229,14 +232,21 @@ free_hits c view packages a b this that =
 module _ (laws : ReportLaws) where
   -- ---- reports in the same circumstances
 
-  same_saying : (texts : InputTexts) (a b : cfg.Policy) → IsPolicyOf texts.policy policy_id a
-      → IsPolicyOf texts.policy policy_id b → saying_of a ≡ saying_of b
+  same_saying : (texts : InputTexts) (a b : cfg.Policy) → IsPolicyOf texts.today texts.policy policy_id a
+      → IsPolicyOf texts.today texts.policy policy_id b → saying_of a ≡ saying_of b
   same_saying texts a b this that =
-      let policies = laws.policies texts.policy policy_id a b this that in
-      let licences = laws.licences texts.policy policy_id a b this that in
-      let buildings = laws.buildings texts.policy policy_id a b this that in
-      let globs = laws.globs texts.policy policy_id a b this that in
-      λ i. record { policy = policies i; licensing = licences i; building = buildings i; globs = globs i }
+      let policies = laws.policies texts.today texts.policy policy_id a b this that in
+      let licences = laws.licences texts.today texts.policy policy_id a b this that in
+      let buildings = laws.buildings texts.today texts.policy policy_id a b this that in
+      let expired = laws.expired texts.today texts.policy policy_id a b this that in
+      let globs = laws.globs texts.today texts.policy policy_id a b this that in
+      λ i. record {
+        policy = policies i;
+        licensing = licences i;
+        building = buildings i;
+        expired = expired i;
+        globs = globs i;
+      }
 
   -- the first report in the circumstances of the second, except for what was seen
   moved : (told other : Option Files) (texts : InputTexts) (view otherwise : View) (packages others : List Package)

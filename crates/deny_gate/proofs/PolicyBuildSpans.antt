@@ -81,18 +81,19 @@ module _ (P : Span → Type 0) where
       let features = word_spans v.required_features in
       let globs = of_some pattern_spans v.allow_globs in
       let paths = flat_map written.path_spans v.allow in
-      let from_features = lie_rest P sums (features ++ (globs ++ (paths ++ []))) lie.1 in
-      let from_globs = lie_rest P features (globs ++ (paths ++ [])) from_features in
-      let from_paths = lie_rest P globs (paths ++ []) from_globs in (
+      let last = of_some own_span v.expires in
+      let from_features = lie_rest P sums (features ++ (globs ++ (paths ++ (last ++ [])))) lie.1 in
+      let from_globs = lie_rest P features (globs ++ (paths ++ (last ++ []))) from_features in
+      let from_paths = lie_rest P globs (paths ++ (last ++ [])) from_globs in (
         lie.0,
         all_append P (sum_span (option_map checksum_view v.build_script)) _
-            (sum_lies v.build_script (lie_prefix P sums (features ++ (globs ++ (paths ++ []))) lie.1))
+            (sum_lies v.build_script (lie_prefix P sums (features ++ (globs ++ (paths ++ (last ++ [])))) lie.1))
             (all_append P (map (λ (w : SpannedText). w.span) v.required_features) _
-            (features_lie v.required_features (lie_prefix P features (globs ++ (paths ++ [])) from_features))
+            (features_lie v.required_features (lie_prefix P features (globs ++ (paths ++ (last ++ []))) from_features))
             (all_append P (map (λ (w : SpannedText). w.span) (globs_view v.allow_globs))
             (flat_map path_spans (map path_view v.allow))
-            (globs_lie v.allow_globs users (lie_prefix P globs (paths ++ []) from_globs))
-            (paths_lie v.allow (lie_prefix P paths [] from_paths)))),
+            (globs_lie v.allow_globs users (lie_prefix P globs (paths ++ (last ++ [])) from_globs))
+            (paths_lie v.allow (lie_prefix P paths (last ++ []) from_paths)))),
       )
 
   bypasses_lie : (said : List table.Bypass) (vs : List ValidBypass) → AllZip IsBypassOf said vs

@@ -4,13 +4,23 @@ use Rattle.std.proofs.Common.{subst, sym}
 use Rattle.std.specs.Prelude.{IfSome}
 use Rattle.deny_base.specs.declared.files.File.{File}
 use Rattle.deny_cfg.proofs.BuiltLaws.{globs_read, next_file}
+use Rattle.deny_cfg.specs.Current.{current_bans}
 use Rattle.deny_cfg.specs.PolicyText.{IsPolicyOf, globs_files, policy_file, policy_files}
 use Rattle.deny_cfg.specs.PolicyView.{AreGlobsRead, builtin_file_of}
+use Rattle.deny_cfg.specs.declared.bans.cfg.valid.ValidConfig.{ValidConfig}
 use Rattle.deny_cfg.specs.declared.policy.Policy.{Policy}
+use Rattle.deny_cfg_entries.specs.declared.day.Day.{Day}
 use Rattle.deny_gate.specs.Report.{lock_id, policy_id}
 
-pub read_there : (text : List ℕ) (policy : Policy) → IsPolicyOf text policy_id policy → AreGlobsRead policy.bans
-read_there text policy is = globs_read text policy_id policy is
+pub read_there : (today : Option Day) (text : List ℕ) (policy : Policy) → IsPolicyOf today text policy_id policy
+    → AreGlobsRead policy.bans
+read_there today text policy is = globs_read today text policy_id policy is
+
+-- what counts on a day is of the file of the written text
+pub file_number : (today : Option Day) (text : List ℕ) (policy : Policy) → IsPolicyOf today text policy_id policy
+    → policy.bans.file_id ≡ policy_id
+unfolding current_bans
+file_number today text policy is = ap (λ (bans : ValidConfig). bans.file_id) is.current.bans ∙ is.valid.file_id
 
 lock_behind : (text : List ℕ) (globs : Option ℕ) → IfSome globs (λ n. n ≡ 1)
     → length (policy_file text ∷ globs_files globs) ≡ lock_id globs
@@ -28,7 +38,8 @@ few_files text policy files same =
     (one_or_two text (builtin_file_of policy.bans)) in
     omega (arith, few)
 
-pub lock_number : (text : List ℕ) (policy : Policy) (files : List File) → IsPolicyOf text policy_id policy
-    → files ≡ policy_files text policy.bans → length files ≡ lock_id (builtin_file_of policy.bans)
-lock_number text policy files is same = ap (λ (fs : List File). length fs) same
-    ∙ lock_behind text (builtin_file_of policy.bans) (next_file text policy_id policy is)
+pub lock_number : (today : Option Day) (text : List ℕ) (policy : Policy) (files : List File)
+    → IsPolicyOf today text policy_id policy → files ≡ policy_files text policy.bans
+    → length files ≡ lock_id (builtin_file_of policy.bans)
+lock_number today text policy files is same = ap (λ (fs : List File). length fs) same
+    ∙ lock_behind text (builtin_file_of policy.bans) (next_file today text policy_id policy is)

@@ -29,14 +29,18 @@ use Rattle.deny_cfg_build.specs.declared.valid.ValidBuildConfig.{ValidBuildConfi
 use Rattle.deny_spec.specs.Building.{Building, ScriptGlob}
 use Rattle.deny_cfg.specs.PolicyText.{IsPolicyOf, globs_files, policy_file}
 use Rattle.deny_cfg.specs.PolicyView.{allow_view, building_of, builtin_file_of, ban_view, entry_view, feature_view}
-use Rattle.deny_cfg.specs.PolicyView.{policy_view}
+use Rattle.deny_cfg.specs.PolicyView.{past_waiver_view, past_waivers_of, policy_view}
 use Rattle.deny_cfg.specs.PolicyView.{reason_words, replacing_view, root_view, roots_from, words_or_none}
 use Rattle.deny_cfg.specs.StdReplacementConfig.{StdReplacementConfig}
 use Rattle.deny_cfg.specs.TreeSkipExtended.{TreeSkipExtended}
 use Rattle.deny_cfg.specs.declared.bans.cfg.valid.KrateBan.{KrateBan}
 use Rattle.deny_cfg.specs.declared.bans.cfg.valid.ValidConfig.{ValidConfig}
 use Rattle.deny_cfg.specs.declared.bans.cfg.valid.ValidKrateFeatures.{ValidKrateFeatures}
+use Rattle.deny_cfg.specs.declared.expired.ExpiredWaiver.{ExpiredWaiver}
 use Rattle.deny_cfg.specs.declared.policy.Policy.{Policy}
+use Rattle.deny_cfg_entries.specs.declared.day.Day.{Day}
+use Rattle.deny_cfg_entries.specs.declared.expiry.Expiry.{Expiry}
+use Rattle.deny_cfg_entries.specs.declared.waiver.Waiver.{Waiver}
 use Rattle.deny_cfg.specs.Reason.{Reason}
 use Rattle.deny_cfg.specs.PackageSpecOrExtended.{PackageSpecOrExtended}
 use Rattle.deny_cfg.proofs.Among.{lie_prefix, lie_rest}
@@ -61,7 +65,7 @@ use Rattle.deny_gate.specs.Labels.{AreLabelled}
 use Rattle.deny_gate.specs.private.Labels.{allow_spans, ban_spans, build_spans, built_in_globs, built_in_spans}
 use Rattle.deny_gate.specs.private.Labels.{entry_spans}
 use Rattle.deny_gate.specs.private.Labels.{features_spans, ignore_spans, licence_spans, own_span, span_of}
-use Rattle.deny_gate.specs.private.Labels.{spans_of}
+use Rattle.deny_gate.specs.private.Labels.{past_spans, past_waiver_spans, spans_of}
 use Rattle.deny_gate.specs.Labels.{ArePlaced}
 use Rattle.deny_gate.specs.private.Labels.{root_spans}
 use Rattle.deny_gate.specs.Report.{lock_id, policy_id, IsReport, finding_for}
@@ -187,15 +191,27 @@ module _ (P : Span → Type 0) where
   unfolding allow_spans
   allow_lies e lie = (lie.0, reason_lies e.inner lie.1)
 
-  entry_lies : (e : PackageSpecOrExtended Reason) → Lie P (with_spec reason_span e)
+  -- the reason stands before the last day
+  dated_lies : (reason : Option Reason) (last : Option (Spanned Expiry))
+      → Lie P (of_some reason_span reason ++ (of_some written.own_span last ++ []))
+      → Lie P (span_of (option_map reason_words reason))
+  dated_lies reason last lie =
+      reason_lies reason (lie_prefix P (of_some reason_span reason) (of_some written.own_span last ++ []) lie)
+
+  waiver_lies : (inner : Option Waiver) → Lie P (of_some written.waiver_spans inner)
+      → Lie P (span_of (option_map reason_words (option_and_then (λ (waiver : Waiver). waiver.reason) inner)))
+  waiver_lies None lie = tt
+  waiver_lies (Some waiver) lie = dated_lies waiver.reason waiver.expires lie
+
+  entry_lies : (e : PackageSpecOrExtended Waiver) → Lie P (with_spec written.waiver_spans e)
       → Lie P (entry_spans (entry_view e))
   unfolding entry_spans
-  entry_lies e lie = (lie.0, reason_lies e.inner lie.1)
+  entry_lies e lie = (lie.0, waiver_lies e.inner lie.1)
 
   root_inner_lies : (inner : Option TreeSkipExtended) → Lie P (of_some written.root_spans inner)
       → Lie P (span_of (option_map reason_words (option_and_then (λ (skip : TreeSkipExtended). skip.reason) inner)))
   root_inner_lies None lie = tt
-  root_inner_lies (Some skip) lie = reason_lies skip.reason lie
+  root_inner_lies (Some skip) lie = dated_lies skip.reason skip.expires lie
 
   root_lies : (number : ℕ) (e : PackageSpecOrExtended TreeSkipExtended) → Lie P (with_spec written.root_spans e)
       → Lie P (root_spans (root_view number e))
@@ -221,9 +237,9 @@ module _ (P : Span → Type 0) where
       (lies x (lie_prefix P (from x) (flat_map from xs) lie))
       (each_lies view from to lies xs (lie_rest P (from x) (flat_map from xs) lie))
 
-  entries_lie : (es : List (PackageSpecOrExtended Reason)) → Lie P (flat_map (with_spec reason_span) es)
+  entries_lie : (es : List (PackageSpecOrExtended Waiver)) → Lie P (flat_map (with_spec written.waiver_spans) es)
       → Lie P (flat_map entry_spans (map entry_view es))
-  entries_lie = each_lies entry_view (with_spec reason_span) entry_spans entry_lies
+  entries_lie = each_lies entry_view (with_spec written.waiver_spans) entry_spans entry_lies
 
   -- the spans of an entry of `features`: its list, its flag, and the features that it names
   feature_lies : (f : ValidKrateFeatures) → Lie P (written.features_spans f) → Lie P (feature_spans f)
@@ -272,7 +288,7 @@ module _ (P : Span → Type 0) where
       let external = of_some written.own_span cfg.external_default_features in
       let workspace = of_some written.own_span cfg.workspace_default_features in
       let features = flat_map written.features_spans cfg.features in
-      let skipped = flat_map (with_spec reason_span) cfg.skipped in
+      let skipped = flat_map (with_spec written.waiver_spans) cfg.skipped in
       let trees = flat_map (with_spec written.root_spans) cfg.tree_skipped in
       let from_allowed = lie_rest P (denied ++ flat_map spec_span cfg.denied_multiple_versions) _ lie in
       let from_external = lie_rest P allowed _ from_allowed in
@@ -312,7 +328,7 @@ module _ (P : Span → Type 0) where
       let from_workspace = lie_rest P (of_some written.own_span cfg.external_default_features) _ from_external in
       let from_features = lie_rest P (of_some written.own_span cfg.workspace_default_features) _ from_workspace in
       let from_skipped = lie_rest P (flat_map written.features_spans cfg.features) _ from_features in
-      let from_trees = lie_rest P (flat_map (with_spec reason_span) cfg.skipped) _ from_skipped in
+      let from_trees = lie_rest P (flat_map (with_spec written.waiver_spans) cfg.skipped) _ from_skipped in
       let from_std = lie_rest P (flat_map (with_spec written.root_spans) cfg.tree_skipped) _ from_trees in
       lie_prefix P (of_some written.build_spans cfg.build) []
       (lie_rest P (of_some std_spans cfg.std_replacements) _ from_std)
@@ -327,7 +343,8 @@ module _ (P : Span → Type 0) where
   exceptions_lie : (es : List Exception) → Lie P (flat_map exception_span es)
       → Lie P (map (λ (e : model.Exception). e.spec.span) (map exception_view es))
   exceptions_lie [] lie = tt
-  exceptions_lie (e ∷ es) lie = (lie.0, exceptions_lie es lie.1)
+  exceptions_lie (e ∷ es) lie =
+      (lie.0, exceptions_lie es (lie_rest P (of_some written.own_span e.expires) (flat_map exception_span es) lie.1))
 
   licences_lie : (licensing : Option licenses.Config) → Lie P (written.licence_spans licensing)
       → Lie P (licence_spans (licensing_of licensing))
@@ -341,6 +358,17 @@ module _ (P : Span → Type 0) where
       (allowances_lie config.allow (lie_prefix P allow (exceptions ++ []) lie))
       (exceptions_lie config.exceptions
       (lie_prefix P exceptions [] (lie_rest P allow (exceptions ++ []) lie)))
+
+  -- ---- expired waivers
+
+  past_one_lies : (w : ExpiredWaiver) → Lie P (written.expired_spans_of w)
+      → Lie P (past_waiver_spans (past_waiver_view w))
+  unfolding past_waiver_spans
+  past_one_lies w lie = (lie.1.0, reason_lies w.reason lie.1.1)
+
+  past_lies : (ws : List ExpiredWaiver) → Lie P (written.expired_spans ws)
+      → Lie P (past_spans (map past_waiver_view ws))
+  past_lies = each_lies past_waiver_view written.expired_spans_of past_waiver_spans past_one_lies
 
 -- ---- together
 
@@ -361,26 +389,30 @@ module _ (text : List ℕ) where
   abbrev OfPolicy : Span → Type 0
   OfPolicy span = IsPolicySpan text span
 
-  all_spans : (old new : Disk) (metadata : List ℕ) (extras : Extras) (said : Policy) (report : Report)
-      → (is : IsPolicyOf text policy_id said) → (g : Graph) → IsGraphOf metadata g
+  all_spans : (today : Option Day) (old new : Disk) (metadata : List ℕ) (extras : Extras) (said : Policy)
+      (report : Report) → (is : IsPolicyOf today text policy_id said) → (g : Graph) → IsGraphOf metadata g
       → AreLabels text (word_labels said.bans) → AreLabels text (written.licence_spans said.licenses)
       → All (IsPolicySpan text) (written.older_span said.bans)
+      → All (IsPolicySpan text) (written.expired_spans said.expired_waivers)
       → (on : IsReportSeen old new said g extras (first_files text said g) report)
       → AreSpans (circumstances_of said g extras.replacements on.view on.packages) text report.files
-  all_spans old new metadata extras said report is g is_graph bans licences older on =
-      let read = globs_read text policy_id said is in
-      let next = next_file text policy_id said is in
+  all_spans today old new metadata extras said report is g is_graph bans licences older expired on =
+      let read = globs_read today text policy_id said is in
+      let next = next_file today text policy_id said is in
       let words = recursion_from_All OfPolicy (word_labels said.bans) bans.located in record {
         first = refl;
         second = refl;
         of_policy = All-from_recursion OfPolicy (spans_of (policy_view said.bans))
-            (all_spans_lie OfPolicy said.bans words (spans_lie text said is));
+            (all_spans_lie OfPolicy said.bans words (spans_lie today text said is));
         of_licences = All-from_recursion OfPolicy (licence_spans (licensing_of said.licenses))
             (licences_lie OfPolicy said.licenses
             (recursion_from_All OfPolicy (written.licence_spans said.licenses) licences.located));
         of_builds = All-from_recursion OfPolicy (build_spans (building_of said.bans))
             (builds_lie OfPolicy said.bans.build read (build_lies OfPolicy said.bans words)
             (recursion_from_All (IsPolicySpan text) (written.older_span said.bans) older));
+        of_expired = All-from_recursion OfPolicy (past_spans (past_waivers_of said))
+            (past_lies OfPolicy said.expired_waivers
+            (recursion_from_All OfPolicy (written.expired_spans said.expired_waivers) expired));
         of_globs = All-from_recursion (IsSpan builtin_file.source) (built_in_spans (building_of said.bans))
             (built_in_lie said.bans.build read);
         one_feature = one_feature said.bans (lawful text said.bans bans);
@@ -404,17 +436,21 @@ module _ (text : List ℕ) where
 
 -- the labels of the report of a policy that was read lie in its files
 pub labels_then : (old new : Disk) (texts : InputTexts) (said : Policy) (read : List ℕ)
-    (result : Result Report GateError) → read ≡ texts.policy → IsPolicyOf read policy_id said
+    (result : Result Report GateError) → read ≡ texts.policy → IsPolicyOf texts.today read policy_id said
     → AreLabels read (word_labels said.bans) → AreLabels read (written.licence_spans said.licenses)
-    → All (IsPolicySpan read) (written.older_span said.bans) → IfOk result (IsPolicyReport old new said texts)
+    → All (IsPolicySpan read) (written.older_span said.bans)
+    → All (IsPolicySpan read) (written.expired_spans said.expired_waivers)
+    → IfOk result (IsPolicyReport old new said texts)
     → IfOk result (λ report. AreLabelled report.files report.findings)
-labels_then old new texts said read (Ok report) same is bans licences older on =
+labels_then old new texts said read (Ok report) same is bans licences older expired on =
     report_labelled (circumstances_of said on.graph texts.replacements on.seen.view on.seen.packages) texts.policy
     report
-    (all_spans texts.policy old new texts.metadata (extras_of texts) said report
-    (subst (λ (text : List ℕ). IsPolicyOf text policy_id said) same is) on.graph on.is_graph
+    (all_spans texts.policy texts.today old new texts.metadata (extras_of texts) said report
+    (subst (λ (text : List ℕ). IsPolicyOf texts.today text policy_id said) same is) on.graph on.is_graph
     (subst (λ (text : List ℕ). AreLabels text (word_labels said.bans)) same bans)
     (subst (λ (text : List ℕ). AreLabels text (written.licence_spans said.licenses)) same licences)
-    (subst (λ (text : List ℕ). All (IsPolicySpan text) (written.older_span said.bans)) same older) on.seen)
+    (subst (λ (text : List ℕ). All (IsPolicySpan text) (written.older_span said.bans)) same older)
+    (subst (λ (text : List ℕ). All (IsPolicySpan text) (written.expired_spans said.expired_waivers)) same expired)
+    on.seen)
     on.seen.is_report
-labels_then old new texts said read (Err error) same is bans licences older on = tt
+labels_then old new texts said read (Err error) same is bans licences older expired on = tt

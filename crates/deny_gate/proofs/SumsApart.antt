@@ -20,6 +20,8 @@ use Rattle.deny_cfg.specs.Lawful.{IsLawful}
 use Rattle.deny_cfg.specs.PolicyText.{IsPolicyOf}
 use Rattle.deny_cfg.specs.PolicyView.{building_of}
 use Rattle.deny_cfg.specs.declared.policy.Policy.{Policy}
+use Rattle.deny_cfg_entries.specs.declared.day.Day.{Day}
+use Rattle.deny_cfg.proofs.CurrentLaws.{current_labels}
 use Rattle.deny_cfg.proofs.LabelConfig.{config_are_labels}
 use Rattle.deny_cfg.proofs.LabelValid.{valid_are_labels}
 use Rattle.deny_cfg.proofs.LawfulLaws.{lawful}
@@ -30,13 +32,15 @@ use Rattle.deny_gate.proofs.ScriptSums.{SumsDiffer}
 
 -- ---- the entries of a text's policy differ in their spans
 
-lawful_of : (text : List ℕ) (said : Policy) → IsPolicyOf text policy_id said → IsLawful said.bans
-lawful_of text said is =
+lawful_of : (today : Option Day) (text : List ℕ) (said : Policy) → IsPolicyOf today text policy_id said
+    → IsLawful said.bans
+lawful_of today text said is =
     let says = is.says in
     let of = says.is_tree in
-    lawful text said.bans (valid_are_labels text is.config policy_id (policy_id + 1) said.bans is.valid
+    lawful text said.bans (current_labels today text is.written said.bans is.current.bans
+    (valid_are_labels text is.config policy_id (policy_id + 1) is.written is.valid
     (config_are_labels text says.tree is.config says.is_tree (tree_holds text of.0 _ says.tree says.utf8 of.1 refl of.3)
-    (tree_apart text of.0 _ says.tree of.1 of.3) says.reads))
+    (tree_apart text of.0 _ says.tree of.1 of.3) says.reads)))
 
 -- ---- checksums of one entry, and of two
 
@@ -54,7 +58,7 @@ module _ (v : ValidBypass) where
 
   abbrev others : List Span
   others = word_spans v.required_features
-      ++ (of_some pattern_spans v.allow_globs ++ (flat_map path_spans v.allow ++ []))
+      ++ (of_some pattern_spans v.allow_globs ++ (flat_map path_spans v.allow ++ (of_some own_span v.expires ++ [])))
 
   script_there : (sum : Spanned (List ℕ)) → (bypass_view v).script ≡ Some sum → Contains sums sum.span
   script_there sum is = of_sum v.build_script sum is
@@ -67,7 +71,7 @@ module _ (v : ValidBypass) where
       of_sum from.0.checksum sum (ap (λ (x : AllowedPath). x.checksum) from.2 ∙ is) in
       Contains-append_right (word_spans v.required_features) _ sum.span
       (Contains-append_right (of_some pattern_spans v.allow_globs) _ sum.span
-      (Contains-append_left (flat_map path_spans v.allow) [] sum.span
+      (Contains-append_left (flat_map path_spans v.allow) (of_some own_span v.expires ++ []) sum.span
       (Contains-flat_map path_spans v.allow from.0 sum.span from.1
       (Contains-append_right (own_span from.0.path) (of_some own_span from.0.checksum ++ []) sum.span
       (Contains-append_left (of_some own_span from.0.checksum) [] sum.span written)))))
@@ -100,7 +104,7 @@ differ_by None apart b said = absurd (none-some b said)
 differ_by (Some valid) apart b said =
     subst (λ (x : Building). SumsDiffer x) (same_Some (building_view valid) b said) (differ_in valid apart)
 
-pub sums_differ : (text : List ℕ) (said : Policy) → IsPolicyOf text policy_id said → (b : Building)
-    → building_of said.bans ≡ Some b → SumsDiffer b
-sums_differ text said is b of =
-    differ_by said.bans.build (parts_of said.bans (lawful_of text said is)).build b of
+pub sums_differ : (today : Option Day) (text : List ℕ) (said : Policy) → IsPolicyOf today text policy_id said
+    → (b : Building) → building_of said.bans ≡ Some b → SumsDiffer b
+sums_differ today text said is b of =
+    differ_by said.bans.build (parts_of said.bans (lawful_of today text said is)).build b of

@@ -14,7 +14,7 @@ use Rattle.deny_base.proofs.EntryEqual.{entry_cmp-total}
 use Rattle.deny_base.specs.declared.code.Code.{Code}
 use Rattle.deny_base.specs.declared.code.Code.TheVariants as code
 use Rattle.deny_base.specs.declared.code.DiagnosticCode.{DiagnosticCode}
-use Rattle.deny_base.specs.declared.code.DiagnosticCode.TheVariants.{Deprecated, Bans, License}
+use Rattle.deny_base.specs.declared.code.DiagnosticCode.TheVariants.{Deprecated, Bans, License, Expired}
 use Rattle.deny_base.specs.declared.entry.EntryId.{EntryId}
 use Rattle.deny_base.specs.declared.entry.EntryKind.{EntryKind}
 use Rattle.deny_base.specs.declared.entry.Hit.{Hit}
@@ -40,6 +40,7 @@ free_by : (d : DiagnosticCode) (k : EntryKind) → unused_kind d ≡ Some k → 
 free_by Deprecated k is free = refl
 free_by (Bans d) k is free = free_as d k is free
 free_by (License d) k is free = refl
+free_by Expired k is free = refl
 
 named_by : (key : Key) (e : EntryId) (o : Option EntryKind) → unused_kind key.code ≡ o
     → option_map (λ kind. record { kind = kind; range = key.entry }) o ≡ Some e → is_free_kind e.kind ≡ true

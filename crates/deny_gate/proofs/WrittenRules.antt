@@ -40,16 +40,21 @@ use Rattle.deny_cfg_tables.specs.declared.bans.cfg.config.Config.{Config}
 use Rattle.deny_cfg_tables.specs.declared.bans.cfg.features.CrateFeatures.{CrateFeatures}
 use Rattle.deny_cfg_tables.specs.declared.bans.cfg.std_replacements.StdReplacementConfig.{StdReplacementConfig}
 use Rattle.deny_cfg_tables.specs.declared.bans.cfg.workspace.WorkspaceDepsConfig.{WorkspaceDepsConfig}
+use Rattle.deny_cfg_tables.specs.declared.licenses.config.Config as licenses
 use Rattle.deny_cfg_build.specs.Build.{IsBuildOf, build_by}
 use Rattle.deny_cfg_build.specs.BuildingView.{building_view}
 use Rattle.deny_cfg_build.specs.Globs.{OfBoth}
 use Rattle.deny_cfg_build.specs.declared.valid.ValidBuildConfig.{ValidBuildConfig}
+use Rattle.deny_cfg.specs.Current.{current_bans, current_build, current_licenses, current_std}
 use Rattle.deny_cfg.specs.LicensingView.{licensing_of, licensing_view}
 use Rattle.deny_cfg.specs.PolicyText.{IsPolicyOf, ReadsBans}
 use Rattle.deny_cfg.specs.PolicyView.{building_of, feature_view, policy_view, replacing_view, sharing_view}
 use Rattle.deny_cfg.specs.Valid.{build_of, features_of, older_key_of}
+use Rattle.deny_cfg.specs.declared.bans.cfg.valid.ValidConfig.{ValidConfig}
 use Rattle.deny_cfg.specs.declared.bans.cfg.valid.ValidKrateFeatures.{ValidKrateFeatures}
 use Rattle.deny_cfg.specs.declared.policy.Policy as cfg
+use Rattle.deny_cfg_entries.specs.declared.day.Day.{Day}
+use Rattle.deny_spec.specs.Building.{Building}
 use Rattle.deny_gate.specs.Headline.{WritesRule, denies, has_element, has_entry, has_key, is_deny, rule_is_written}
 use Rattle.deny_gate.specs.Report.{policy_id}
 use Rattle.deny_gate.proofs.Covered.{some_test}
@@ -280,58 +285,98 @@ files_seen next older (Some b) None both active = absurd both
 files_seen next older (Some b) (Some v) both active =
     ap (λ (l : LintLevel). is_active l) (sym both.executables) ∙ active
 
+-- ---- the entries that count write no less
+
+std_current : (today : Option Day) (o : Option StdReplacementConfig)
+    → is_some (option_map replacing_view (option_map (current_std today) o)) ≡ is_some (option_map replacing_view o)
+std_current today None = refl
+std_current today (Some std) = refl
+
+build_current : (test : Building → Bool) → ((today : Option Day) (v : ValidBuildConfig)
+    → test (building_view (current_build today v)) ≡ test (building_view v)) → (today : Option Day)
+    (o : Option ValidBuildConfig)
+    → option_map_or test (option_map building_view (option_map (current_build today) o)) false
+    ≡ option_map_or test (option_map building_view o) false
+build_current test same today None = refl
+build_current test same today (Some v) = same today v
+
+licences_current : (today : Option Day) (o : Option licenses.Config)
+    → is_some (licensing_of (option_map (current_licenses today) o)) ≡ is_some (licensing_of o)
+licences_current today None = refl
+licences_current today (Some config) = refl
+
+-- the same rules are active by what counts on a day as by what is written
+current_checks : (today : Option Day) (w : ValidConfig) (o : Option licenses.Config) (rule : Rule)
+    → checks_rule rule (policy_view (current_bans today w)) (licensing_of (option_map (current_licenses today) o))
+    (building_of (current_bans today w))
+    ≡ checks_rule rule (policy_view w) (licensing_of o) (building_of w)
+unfolding current_bans
+current_checks today w o OnCrates = refl
+current_checks today w o OnWildcards = refl
+current_checks today w o OnFeatures = refl
+current_checks today w o OnDefaultFeatures = refl
+current_checks today w o OnWorkspaceDependencies = refl
+current_checks today w o OnStdReplacements = std_current today w.std_replacements
+current_checks today w o OnBuildScripts = build_current lists_scripts (λ day v. refl) today w.build
+current_checks today w o OnPackageFiles = build_current checks_files (λ day v. refl) today w.build
+current_checks today w o OnLicenses = licences_current today o
+
 -- ---- the policy that rules see is the one that was read
 
-module _ (text : List ℕ) (said : cfg.Policy) (is : IsPolicyOf text policy_id said) where
+module _ (today : Option Day) (text : List ℕ) (said : cfg.Policy) (is : IsPolicyOf today text policy_id said) where
   abbrev config : Config
   config = is.config
 
   abbrev tree : Value
   tree = is.says.tree
 
-  features_read : has_features (policy_view said.bans) ≡ true → not (length config.features == 0) ≡ true
+  -- what the text writes, of which the policy has what counts
+  abbrev bans : ValidConfig
+  bans = is.written
+
+  features_read : has_features (policy_view bans) ≡ true → not (length config.features == 0) ≡ true
   features_read some =
       let valid = is.valid in
-      let lengths : length (map feature_view said.bans.features) ≡ length config.features =
-      length-map said.bans.features feature_view
+      let lengths : length (map feature_view bans.features) ≡ length config.features =
+      length-map bans.features feature_view
       ∙ (ap (λ (fs : List ValidKrateFeatures). length fs) valid.features ∙ length-map config.features features_of) in
       subst (λ (n : ℕ). not (n == 0) ≡ true) lengths some
 
-  levels_read : (is_some said.bans.workspace_default_features || is_some said.bans.external_default_features) ≡ true
+  levels_read : (is_some bans.workspace_default_features || is_some bans.external_default_features) ≡ true
       → (is_some config.workspace_default_features || is_some config.external_default_features) ≡ true
   levels_read some =
       let valid = is.valid in
       subst (λ (o : Option (Spanned LintLevel)). (is_some config.workspace_default_features || is_some o) ≡ true)
       valid.external_default_features
-      (subst (λ (o : Option (Spanned LintLevel)). (is_some o || is_some said.bans.external_default_features) ≡ true)
+      (subst (λ (o : Option (Spanned LintLevel)). (is_some o || is_some bans.external_default_features) ≡ true)
       valid.workspace_default_features some)
 
-  std_read : is_some (option_map replacing_view said.bans.std_replacements) ≡ true
+  std_read : is_some (option_map replacing_view bans.std_replacements) ≡ true
       → is_some config.std_replacements ≡ true
   std_read some = ap (λ (o : Option StdReplacementConfig). is_some o) (sym is.valid.std_replacements)
-      ∙ (sym (is_some-option_map replacing_view said.bans.std_replacements) ∙ some)
+      ∙ (sym (is_some-option_map replacing_view bans.std_replacements) ∙ some)
 
-  wildcards_read : denies_wildcards said.bans.wildcards ≡ true → denies_wildcards config.wildcards ≡ true
+  wildcards_read : denies_wildcards bans.wildcards ≡ true → denies_wildcards config.wildcards ≡ true
   wildcards_read denied =
       subst (λ (l : LintLevel). denies_wildcards l ≡ true) is.valid.wildcards denied
 
-  sharing_read : is_some (option_map sharing_view said.bans.workspace_dependencies) ≡ true
+  sharing_read : is_some (option_map sharing_view bans.workspace_dependencies) ≡ true
       → is_some config.workspace_dependencies ≡ true
   sharing_read some = ap (λ (o : Option WorkspaceDepsConfig). is_some o)
       (sym is.valid.workspace_dependencies)
-      ∙ (sym (is_some-option_map sharing_view said.bans.workspace_dependencies) ∙ some)
+      ∙ (sym (is_some-option_map sharing_view bans.workspace_dependencies) ∙ some)
 
-  files_said : option_map_or checks_files (building_of said.bans) false ≡ true
+  files_said : option_map_or checks_files (building_of bans) false ≡ true
       → option_map_or (has_key (codes "build")) (below_name (codes "bans") tree) false ≡ true
   files_said active = files_written config (below_name (codes "bans") tree) is.says.reads
-      (files_seen _ (older_key_of config) (build_of config) said.bans.build is.valid.build active)
+      (files_seen _ (older_key_of config) (build_of config) bans.build is.valid.build active)
 
-  licenses_there : is_some (licensing_of said.licenses) ≡ true → has_key (codes "licenses") tree ≡ true
-  licenses_there some = there_if_read (ReadsTable ReadsLicenses) (below_name (codes "licenses") tree) said.licenses
-      is.says.reads_licenses (sym (is_some-option_map licensing_view said.licenses) ∙ some)
+  licenses_there : is_some (licensing_of is.licensing) ≡ true → has_key (codes "licenses") tree ≡ true
+  licenses_there some = there_if_read (ReadsTable ReadsLicenses) (below_name (codes "licenses") tree) is.licensing
+      is.says.reads_licenses (sym (is_some-option_map licensing_view is.licensing) ∙ some)
 
   abbrev said_checks : Rule → Bool
-  said_checks rule = checks_rule rule (policy_view said.bans) (licensing_of said.licenses) (building_of said.bans)
+  said_checks rule = checks_rule rule (policy_view bans) (licensing_of is.licensing) (building_of bans)
 
   by_rule : (rule : Rule) → said_checks rule ≡ true → rule_is_written rule tree ≡ true
   unfolding rule_is_written
@@ -347,14 +392,26 @@ module _ (text : List ℕ) (said : cfg.Policy) (is : IsPolicyOf text policy_id s
   by_rule OnStdReplacements active =
       std_written config (below_name (codes "bans") tree) is.says.reads (std_read active)
   by_rule OnBuildScripts active = scripts_written config (below_name (codes "bans") tree) is.says.reads
-      (scripts_seen _ (older_key_of config) (build_of config) said.bans.build is.valid.build active)
+      (scripts_seen _ (older_key_of config) (build_of config) bans.build is.valid.build active)
   by_rule OnPackageFiles active = files_said active
   by_rule OnLicenses active = licenses_there active
 
-  written : (o : Option Rule) → option_map_or (λ rule. said_checks rule) o false ≡ true
+  -- a rule that is active by what counts is active by what is written
+  said_active : (rule : Rule)
+      → checks_rule rule (policy_view said.bans) (licensing_of said.licenses) (building_of said.bans) ≡ true
+      → said_checks rule ≡ true
+  said_active rule active =
+      sym (current_checks today bans is.licensing rule)
+      ∙ (ap (λ (o : Option licenses.Config). checks_rule rule (policy_view (current_bans today bans)) (licensing_of o)
+      (building_of (current_bans today bans))) (sym is.current.licenses)
+      ∙ (ap (λ (b : ValidConfig). checks_rule rule (policy_view b) (licensing_of said.licenses) (building_of b))
+      (sym is.current.bans) ∙ active))
+
+  written : (o : Option Rule) → option_map_or (λ rule. checks_rule rule (policy_view said.bans)
+      (licensing_of said.licenses) (building_of said.bans)) o false ≡ true
       → option_map_or (λ rule. rule_is_written rule tree) o false ≡ true
   written None active = absurd (false≢true active)
-  written (Some rule) active = by_rule rule active
+  written (Some rule) active = by_rule rule (said_active rule active)
 
   pub rule_written : (d : DiagnosticCode)
       → is_on d (policy_view said.bans) (licensing_of said.licenses) (building_of said.bans) ≡ true

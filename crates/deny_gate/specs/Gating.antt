@@ -6,8 +6,9 @@ use Rattle.deny_base.specs.declared.files.File.{File}
 use Rattle.deny_base.specs.declared.span.Span.{Span}
 use Rattle.deny_cfg.specs.LicensingView.{licensing_of}
 use Rattle.deny_cfg.specs.PolicyText.{IsPolicyOf, ListsFaults, ReportsClashes, policy_files}
-use Rattle.deny_cfg.specs.PolicyView.{building_of, builtin_file_of, policy_view}
+use Rattle.deny_cfg.specs.PolicyView.{building_of, builtin_file_of, past_waivers_of, policy_view}
 use Rattle.deny_cfg.specs.declared.policy.Policy.{Policy}
+use Rattle.deny_cfg_entries.specs.declared.day.Day.{Day}
 use Rattle.deny_krates.specs.Checked.{Resolved, checked}
 use Rattle.deny_krates.specs.Read.{IsGraphOf}
 use Rattle.deny_krates.specs.fault.MetadataFault.{MetadataFault}
@@ -18,9 +19,10 @@ use Rattle.deny_spec.specs.Policy as model
 use Rattle.deny_spec.specs.View.{View}
 use Rattle.deny_base_disk.specs.Disk.{Disk, Files}
 use Rattle.deny_spec.specs.Building.{Building}
+use Rattle.deny_spec.specs.Expired.{PastWaiver}
 use Rattle.deny_spec.specs.declared.package.Package.{Package}
 use Rattle.deny_spec_report.specs.Circumstances.{Circumstances, FileNumbers, built, licensed, seen_anew, seen_in}
-use Rattle.deny_spec_report.specs.Circumstances.{tabled}
+use Rattle.deny_spec_report.specs.Circumstances.{tabled, with_expired}
 use Rattle.deny_spec_report.specs.Saying.{HasTable, IsBreakIn, bytes_of}
 use Rattle.deny_spec_report.specs.StdReplacements.{asks_for_table}
 use Rattle.deny_build_scan.specs.Why.{AreFoldersOf}
@@ -41,13 +43,15 @@ use Rattle.deny_gate.specs.declared.report.Inputs.{Inputs}
 use Rattle.deny_gate.specs.declared.report.Report.{Report}
 
 -- the inputs of the gate as plain data: the texts of a policy and of metadata, the bytes of a table of replacements,
--- if there is one, the folder that paths are shown from, if one is named, and the registries that manifests can name
+-- if there is one, the folder that paths are shown from, if one is named, the registries that manifests can name, and
+-- the day of which the policy is judged, if one is named
 pub record InputTexts : Type 0 where
   pub policy : List ℕ
   pub metadata : List ℕ
   pub replacements : Option (List ℕ)
   pub home : Option (List ℕ)
   pub registries : List Registry
+  pub today : Option Day
 
 abbrev pub texts_in : Inputs → InputTexts
 texts_in inputs = record {
@@ -56,6 +60,7 @@ texts_in inputs = record {
   replacements = option_map (λ bytes. bytes.items) inputs.replacements;
   home = inputs.home;
   registries = inputs.registries;
+  today = inputs.today;
 }
 
 -- each text is under 2^28 bytes
@@ -64,12 +69,13 @@ pub record AreShort (texts : InputTexts) : Type 0 where
   pub metadata : length texts.metadata < 2 ^ 28
   pub replacements : IfSome texts.replacements (λ bytes. length bytes < 2 ^ 28)
 
--- what the rules read of a policy: what it says of crates, licences and builds, and the number of the built-in globs
--- among the files, where they are there
+-- what the rules read of a policy: what it says of crates, licences and builds, its waivers that expired, and the
+-- number of the built-in globs among the files, where they are there
 pub record Saying : Type 0 where
   pub policy : model.Policy
   pub licensing : Option Licensing
   pub building : Option Building
+  pub expired : List PastWaiver
   pub globs : Option ℕ
 
 abbrev pub saying_of : Policy → Saying
@@ -77,6 +83,7 @@ saying_of said = record {
   policy = policy_view said.bans;
   licensing = licensing_of said.licenses;
   building = building_of said.bans;
+  expired = past_waivers_of said;
   globs = builtin_file_of said.bans;
 }
 
@@ -88,7 +95,7 @@ numbers_of globs = record { policy = policy_id; lock = Some (lock_id globs); glo
 abbrev pub circumstances_on : Saying → Graph → Option (List ℕ) → View → List Package → Circumstances
 circumstances_on said g replacements view packages =
     let seen = seen_anew (seen_in (numbers_of said.globs) said.policy g view) view packages in
-    licensed (tabled (built seen said.building) (bytes_of replacements)) said.licensing
+    with_expired (licensed (tabled (built seen said.building) (bytes_of replacements)) said.licensing) said.expired
 
 -- the circumstances of a policy that was read
 abbrev pub circumstances_of : Policy → Graph → Option (List ℕ) → View → List Package → Circumstances
@@ -112,7 +119,7 @@ pub record IsReportBy (told : Option Files) (texts : InputTexts) (view : View) (
     (report : Report)
     : Type 0 where
   pub said : Policy
-  pub is_said : IsPolicyOf texts.policy policy_id said
+  pub is_said : IsPolicyOf texts.today texts.policy policy_id said
   pub graph : Graph
   pub is_graph : IsGraphOf texts.metadata graph
   pub table : IsTableFor (policy_view said.bans) texts.replacements
@@ -155,10 +162,10 @@ pub record AreAlikeUnseen (a b : Report) : Type 0 where
   pub hits : unseeing_hits a.hits ≡ unseeing_hits b.hits
   pub dead : unseeing_entries a.dead ≡ unseeing_entries b.dead
 
--- the text is a policy
-pub record HasPolicy (policy : List ℕ) : Type 0 where
+-- the text is a policy of the day
+pub record HasPolicy (today : Option Day) (policy : List ℕ) : Type 0 where
   pub said : Policy
-  pub is_said : IsPolicyOf policy policy_id said
+  pub is_said : IsPolicyOf today policy policy_id said
 
 -- the bytes are metadata without a fault, and so have a graph
 pub record HasGraph (metadata : List ℕ) : Type 0 where
@@ -170,18 +177,19 @@ pub record IsFirstFault (metadata : List ℕ) (f : MetadataFault) : Type 0 where
   pub is_theirs : f ≢ fault.Memory
   pub is : checked metadata ≡ Err f
 
--- the text is a policy, which asks for a table of replacements
-pub record AsksForTable (policy : List ℕ) : Type 0 where
+-- the text is a policy of the day, which asks for a table of replacements
+pub record AsksForTable (today : Option Day) (policy : List ℕ) : Type 0 where
   pub said : Policy
-  pub is_said : IsPolicyOf policy policy_id said
+  pub is_said : IsPolicyOf today policy policy_id said
   pub asks : IsTrue (asks_for_table (policy_view said.bans))
 
 -- when an error may come: the policy is read first, and then the metadata
 abbrev pub IsCause : InputTexts → GateError → Type 0
-IsCause texts (Config faults) = ListsFaults texts.policy faults
-IsCause texts (Invalid clashes) = ReportsClashes texts.policy policy_id clashes
-IsCause texts (Metadata f) = HasPolicy texts.policy × IsFirstFault texts.metadata f
-IsCause texts (Replacement at) = AsksForTable texts.policy × HasGraph texts.metadata × IsBreakIn texts.replacements at
+IsCause texts (Config faults) = ListsFaults texts.today texts.policy faults
+IsCause texts (Invalid clashes) = ReportsClashes texts.today texts.policy policy_id clashes
+IsCause texts (Metadata f) = HasPolicy texts.today texts.policy × IsFirstFault texts.metadata f
+IsCause texts (Replacement at) =
+    AsksForTable texts.today texts.policy × HasGraph texts.metadata × IsBreakIn texts.replacements at
 IsCause texts Memory = Unit {0}
 
 -- an error is that of a text outside the grammar of TOML; at which span is free

@@ -219,7 +219,7 @@ pub record KeepsHeadline (p : Policy) (g : Graph) (facts : Facts) (report : Repo
 -- the headline of a report on the policy and the graph of inputs, by true facts
 pub record IsHeadlineOf (texts : InputTexts) (report : Report) : Type 0 where
   pub said : cfg.Policy
-  pub is_said : IsPolicyOf texts.policy policy_id said
+  pub is_said : IsPolicyOf texts.today texts.policy policy_id said
   pub graph : Graph
   pub is_graph : IsGraphOf texts.metadata graph
   pub facts : Facts

@@ -3,3 +3,4 @@ pub mod Gating
 pub mod Hits
 pub mod Labels
 pub mod Report
+pub mod Warnings

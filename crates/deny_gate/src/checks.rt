@@ -13,13 +13,15 @@ ghost use Rattle.deny_base_unread.specs.Causes.{AreCaused};
 ghost use Rattle.deny_gate.specs.Gating.{IsTableFor};
 ghost use Rattle.deny_gate.specs.private.Gating.{AreEntriesApart, IsCheckedBy, IsLicensedIf, AreGraphResults};
 ghost use Rattle.deny_gate.specs.private.Gating.{extras_in};
+ghost use Rattle.deny_gate.specs.private.Warnings.{AreAllFindings};
 ghost use Rattle.deny_gate.specs.Report.{lock_id};
 ghost use Rattle.deny_gate.specs.Unread.{of_manifests};
 
-use crate::findings::findings_in;
+use crate::findings::add_findings;
 use crate::hits::joined_hits;
 use crate::report::Finding;
 use crate::unread::joined_unread;
+use crate::warnings::warnings_in;
 use deny_base::{Files, Hit, Pack};
 use deny_base_disk::PackageFiles;
 use deny_base_lists::{List, NoMemory, Text};
@@ -31,7 +33,7 @@ use deny_rules::{CheckCtx, DupEdges, bans};
 use deny_spans::{KrateSpans, Registry};
 use std::alloc::Global;
 
-/// The results of both checks.
+/// The results of both checks, with the policy's own warnings among the findings.
 #[derive(Drop)]
 pub struct CheckResults {
     pub findings: List<Finding>,
@@ -80,6 +82,20 @@ fn check_licenses(
     }
 }
 
+/// The findings of the policy's own warnings, and behind them those of packs.
+fn all_findings(
+    alloc: Global,
+    policy: &Policy,
+    packs: List<Pack>,
+) -> Result<List<Finding>, NoMemory>
+    requires file { policy.now.bans.file_id ≡ 0 }
+    ensures { IfOk result (AreAllFindings policy.now packs) }
+{
+    let mut findings = warnings_in(alloc, policy)?;
+    add_findings(packs, &mut findings)?;
+    Ok(findings)
+}
+
 /// Runs both checks of a policy on a graph, by where the crates stand in the lock text and in manifests,
 /// and by what packages hold.
 fn run_checks<D: PackageFiles>(
@@ -103,6 +119,8 @@ fn run_checks<D: PackageFiles>(
     ensures later { IsLater (D.seen disk.old) (D.seen disk.new) }
 {
     deny_spec_report::bans_unlicensed();
+    deny_spec_report::bans_unexpired();
+    deny_spec_report::policy_keys();
     deny_spec_report::joined_keys();
     let ctx = CheckCtx {
         cfg: &policy.bans,
@@ -115,7 +133,7 @@ fn run_checks<D: PackageFiles>(
     let end = bans::check(alloc, &ctx, disk, &mut packs)?;
     let licensed = check_licenses(alloc, policy, krates, &mut packs)?;
     let hits = joined_hits(end.hits, licensed)?;
-    let findings = findings_in(alloc, packs)?;
+    let findings = all_findings(alloc, policy, packs)?;
     let results = CheckResults {
         findings,
         dup_edges: end.dup_edges,

@@ -8,7 +8,6 @@ ghost use Rattle.deny_gate.specs.Stats.{same_check};
 use crate::report::{Finding, Verdict};
 use deny_base::{Check, Diag, Kid, Pack, Severity};
 use deny_base_lists::{List, NoMemory};
-use std::alloc::Global;
 
 fn same_kid(kid: &Option<Kid>) -> Result<Option<Kid>, NoMemory>
     ensures { IfOk result (λ copy. copy ≡ kid.now) }
@@ -44,15 +43,14 @@ fn add_pack(pack: Pack, findings: &mut List<Finding>) -> Result<(), NoMemory>
     add_diags(check, &kid, diags, findings)
 }
 
-/// The findings of packs, in their order.
-pub fn findings_in(alloc: Global, packs: List<Pack>) -> Result<List<Finding>, NoMemory>
-    ensures { IfOk result (λ findings. findings ≡ flat_map findings_of packs) }
+/// Adds the findings of packs, in their order.
+pub fn add_findings(packs: List<Pack>, findings: &mut List<Finding>) -> Result<(), NoMemory>
+    ensures { OnOk result (findings.new ≡ findings.old ++ flat_map findings_of packs) }
 {
-    let mut findings = List::new(alloc);
     'packs: for pack in packs.vec {
-        add_pack(pack, &mut findings)?;
+        add_pack(pack, findings)?;
     }
-    Ok(findings)
+    Ok(())
 }
 
 /// Whether a finding has severity error.

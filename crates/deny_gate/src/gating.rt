@@ -1,6 +1,6 @@
 ghost use Rattle.std.specs.Prelude.{◌≡◌, ◌≢◌, ◌<◌, ◌^◌, ◌++◌, [], ◌∷◌, All, length, IfOk, IfErr, OnOk};
 ghost use Rattle.std.specs.Prelude.{is_some, option_copied};
-ghost use Rattle.deny_cfg.specs.LabelSpans.{AreLabels, licence_spans, older_span, word_labels};
+ghost use Rattle.deny_cfg.specs.LabelSpans.{AreLabels, expired_spans, licence_spans, older_span, word_labels};
 ghost use Rattle.deny_cfg.specs.Marks.{IsPolicySpan};
 ghost use Rattle.deny_cfg.specs.PolicyText.{IsPolicyOf, policy_files};
 ghost use Rattle.deny_cfg.specs.PolicyView.{AreGlobsRead, builtin_file_of, policy_view};
@@ -38,27 +38,34 @@ use deny_base::{EntryId, Files};
 use deny_base_disk::PackageFiles;
 use deny_base_lists::{List, NoMemory};
 use deny_cfg::bans::cfg::ValidConfig;
-use deny_cfg::{Policy, PolicyError, Scope, read_policy};
+use deny_cfg::{Day, Policy, PolicyError, Scope, read_policy};
 use deny_krates::{Krates, MetadataFault};
 use deny_std::{ReplacementData, ReplacementError};
 use std::alloc::Global;
 
-/// The policy of a text.
+/// The policy of a text on a day.
 #[tactic(auto, using(crate::proofs::PolicyFiles::lock_number, crate::proofs::PolicyFiles::read_there))]
-fn policy_of(alloc: Global, text: &[u8], files: &mut Files) -> Result<Policy, GateError>
+fn policy_of(
+    alloc: Global,
+    text: &[u8],
+    files: &mut Files,
+    today: Option<Day>,
+) -> Result<Policy, GateError>
     requires small { length text.now < 2 ^ 28 }
     requires first { files.old ≡ [] }
-    ensures ok { IfOk result (IsPolicyOf text.now policy_id) }
+    ensures ok { IfOk result (IsPolicyOf today text.now policy_id) }
     ensures labels { IfOk result (λ policy. AreLabels text.now (word_labels policy.bans)) }
     ensures licence_labels { IfOk result (λ policy. AreLabels text.now (licence_spans policy.licenses)) }
     ensures older_key { IfOk result (λ policy. All (IsPolicySpan text.now) (older_span policy.bans)) }
+    ensures expired_labels { IfOk result (λ policy.
+        All (IsPolicySpan text.now) (expired_spans policy.expired_waivers)) }
     ensures read { IfOk result (λ policy. AreGlobsRead policy.bans) }
     ensures apart { IfOk result AreEntriesApart }
-    ensures err { IfErr result (IsPolicyCause text.now) }
+    ensures err { IfErr result (IsPolicyCause today text.now) }
     ensures files { IfOk result (λ policy. files.new ≡ policy_files text.now policy.bans) }
     ensures lock { IfOk result (λ policy. length files.new ≡ lock_id (builtin_file_of policy.bans)) }
 {
-    match read_policy(alloc, text, files) {
+    match read_policy(alloc, text, files, today) {
         Ok(policy) => Ok(policy),
         Err(PolicyError::Config(faults)) => Err(GateError::Config(faults)),
         Err(PolicyError::Invalid(clashes)) => Err(GateError::Invalid(clashes)),
@@ -346,6 +353,6 @@ pub fn gate<D: PackageFiles>(
     deny_spec_removal::entries_can_go();
     deny_spec_removal::packages_stay();
     let mut files = Files::new(alloc);
-    let policy = policy_of(alloc, inputs.policy.as_slice(), &mut files)?;
+    let policy = policy_of(alloc, inputs.policy.as_slice(), &mut files, inputs.today)?;
     report_on_metadata(alloc, files, &policy, inputs, disk)
 }

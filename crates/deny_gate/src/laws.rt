@@ -26,8 +26,8 @@ pub fn one_answer()
     ensures cause { (texts : InputTexts) → (a b : GateError) → a ≢ gate.Memory → b ≢ gate.Memory
         → IsCause texts a → IsCause texts b → AreOneCause a b }
     ensures valid { (texts : InputTexts) → (error : GateError) → error ≢ gate.Memory
-        → HasPolicy texts.policy → HasGraph texts.metadata
-        → (AsksForTable texts.policy → HasTable texts.replacements) → IsCause texts error → ⊥ }
+        → HasPolicy texts.today texts.policy → HasGraph texts.metadata
+        → (AsksForTable texts.today texts.policy → HasTable texts.replacements) → IsCause texts error → ⊥ }
 {
     deny_cfg::one_refusal();
 }

@@ -49,6 +49,7 @@ mod report;
 mod stats;
 mod trees;
 mod unread;
+mod warnings;
 
 /// Trees of the graph, by cargo-deny's names.
 pub mod grapher {

@@ -2,6 +2,7 @@ use crate::stats::AllStats;
 use deny_base::{Check, Diag, Diagnostic, EntryId, Files, Hit, Kid};
 use deny_base_lists::{List, NoMemory, Text};
 use deny_base_unread::Unread;
+use deny_cfg::Day;
 use deny_krates::{Krates, MetadataFault};
 use deny_rules::DupEdges;
 use deny_spans::Registry;
@@ -20,6 +21,9 @@ pub struct Inputs {
     pub home: Option<Text>,
     /// The registries that manifests can name; of one name the first counts.
     pub registries: List<Registry>,
+    /// The day of which the policy is judged: entries whose last day is before it count nowhere. A policy whose
+    /// entries have last days needs one.
+    pub today: Option<Day>,
 }
 
 /// A finding: its check, the crate that it is about, if any, and its diagnostics.

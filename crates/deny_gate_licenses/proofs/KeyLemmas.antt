@@ -20,7 +20,7 @@ use Rattle.deny_base.specs.Code.{code_number, diagnostic_code_number, section_nu
 use Rattle.deny_base.specs.KeyOrder.{key_cmp}
 use Rattle.deny_base.specs.LicenseCode.{license_code_number}
 use Rattle.deny_base.specs.declared.code.DiagnosticCode.{DiagnosticCode}
-use Rattle.deny_base.specs.declared.code.DiagnosticCode.TheVariants.{Deprecated, Bans, License}
+use Rattle.deny_base.specs.declared.code.DiagnosticCode.TheVariants.{Deprecated, Bans, License, Expired}
 use Rattle.deny_base.specs.declared.key.Key.{Key}
 use Rattle.deny_base.specs.declared.key.Section.TheVariants as section
 use Rattle.deny_base.specs.declared.license_code.LicenseCode.{LicenseCode}
@@ -41,7 +41,7 @@ use Rattle.deny_spec_report.specs.Licences.{licensed_key, not_encountered_keys}
 use Rattle.deny_spec_report.specs.Holding.{ListsOwn, HoldsBy, HoldsIn}
 use Rattle.deny_spec_report.proofs.Parts.{lists_append, lists_same}
 use Rattle.deny_spec_report.proofs.EachCode.{as_code}
-use Rattle.deny_spec_report.proofs.Sections.{as_deprecated, two_checks}
+use Rattle.deny_spec_report.proofs.Sections.{as_deprecated, as_expired, not_of_licenses, two_checks}
 use Rattle.deny_rules_match.specs.Placed.{ArePlaced}
 use Rattle.deny_krates.proofs.PlaceLemmas.{place_of}
 use Rattle.deny_gate_licenses.specs.Check.{of_licences}
@@ -273,10 +273,11 @@ module _ (l : Licensing) (g : Graph) (file : ℕ) (placed : ArePlaced g.crates) 
     by-code : (d : DiagnosticCode) (key : Key) → IsTrue (is_of_licenses key.section)
         → HoldsBy d (of_licences l g file c) facts key → OfCrate key ⊎ OfEntry key
     by-code Deprecated key mine is =
-        absurd (two_checks key.section (as_deprecated (of_licences l g file c) key is) mine)
+        absurd (not_of_licenses key.section (as_deprecated (of_licences l g file c) key is) mine)
     by-code (Bans d) key mine is =
         absurd (two_checks key.section (as_code d (of_licences l g file c) facts key is) mine)
     by-code (License d) key mine is = by-license d key is
+    by-code Expired key mine is = absurd (not_of_licenses key.section (as_expired c.expired key is) mine)
 
     back : (key : Key) → HoldsIn is_of_licenses (of_licences l g file c) facts key → OfCrate key ⊎ OfEntry key
     back key is = by-code key.code key is.0 is.1

@@ -16,7 +16,7 @@ use Rattle.deny_base.specs.KeyOrder.{key_cmp}
 use Rattle.deny_base.specs.declared.code.Code.{Code}
 use Rattle.deny_base.specs.declared.code.Code.TheVariants as code
 use Rattle.deny_base.specs.declared.code.DiagnosticCode.{DiagnosticCode}
-use Rattle.deny_base.specs.declared.code.DiagnosticCode.TheVariants.{Deprecated, Bans, License}
+use Rattle.deny_base.specs.declared.code.DiagnosticCode.TheVariants.{Deprecated, Bans, License, Expired}
 use Rattle.deny_base.specs.declared.key.Key.{Key}
 use Rattle.deny_base.specs.declared.key.Section.{Section}
 use Rattle.deny_base.specs.declared.key.Section.TheVariants as section
@@ -31,21 +31,21 @@ use Rattle.deny_spec_report.specs.Facts.{Facts}
 use Rattle.deny_spec_report.specs.Packages.{build_keys_in, Scanning, build_keys, is_used, scanning, package_keys}
 use Rattle.deny_spec_report.specs.Packages.{unmatched_bypass_keys}
 use Rattle.deny_spec_report.specs.Holding.{ListsOwn, Holds, HoldsBy, HoldsIn}
-use Rattle.deny_spec_report.proofs.BuildMade.{build_made, deprecated_made, MadeOfBuilds}
+use Rattle.deny_spec_report.proofs.BuildMade.{build_made, MadeOfBuilds}
 use Rattle.deny_spec_report.proofs.Made.{Made, allowed_by_wrapper_made, allowed_made, banned_made, default_enabled_made}
 use Rattle.deny_spec_report.proofs.Made.{duplicate_made, feature_banned_made, feature_not_allowed_made, mismatched_made}
 use Rattle.deny_spec_report.proofs.Made.{not_allowed_made, replaced_made, skipped_by_root_made, skipped_made}
 use Rattle.deny_spec_report.proofs.Made.{unknown_feature_made, unmatched_ignore_made, unmatched_wrapper_made}
 use Rattle.deny_spec_report.proofs.Made.{unresolved_made, unused_entry_made, wildcard_made, workspace_duplicate_made}
 use Rattle.deny_spec_report.proofs.Parts.{lists_append, lists_same}
-use Rattle.deny_spec_report.proofs.Sections.{not_licensed}
+use Rattle.deny_spec_report.proofs.Sections.{as_deprecated, as_expired, not_licensed, not_of_bans}
 use Rattle.deny_std.specs.Found.{IsOfStd}
 use Rattle.deny_rules_features.specs.FeatureKeys.{IsOfFeatures}
 use Rattle.deny_rules_manifests.specs.ManifestKeys.{IsOfManifests}
 use Rattle.deny_rules_crates.specs.Rules.{ban_rules, keys_of_rules, skip_rules}
-use Rattle.deny_rules.specs.private.OwnRules.{IsByRule, IsOfBuilds}
+use Rattle.deny_rules.specs.private.OwnRules.{IsByRule}
 use Rattle.deny_rules.proofs.BuildSections.{key_of_crates}
-use Rattle.deny_rules.proofs.StdLastLemmas.{IsFirst, IsUnused, deprecated_first, of_section, of_unused, unmatched_roots}
+use Rattle.deny_rules.proofs.StdLastLemmas.{IsFirst, IsUnused, of_section, of_unused, unmatched_roots}
 use Rattle.deny_rules.proofs.StdLastLemmas.{unmatched_skips, unnecessary_skips, unused_made, unused_map}
 use Rattle.deny_rules.proofs.StdLastLemmas.{unused_wrappers}
 
@@ -54,6 +54,7 @@ builds_reported : DiagnosticCode → Bool
 builds_reported Deprecated = true
 builds_reported (Bans d) = not (is_of_builds d) || is_reported_here (Bans d)
 builds_reported (License d) = true
+builds_reported Expired = true
 
 both_hold : (a b : Bool) → (not a || b) ≡ true → a ≡ true → b ≡ true
 both_hold true b all is = all
@@ -191,19 +192,12 @@ module _ (c : Circumstances) (facts : Facts) where
                 (unused_map code.UnmatchedBypass bypass_span (filter (λ y. not (is_used l y)) b.bypass) key there)
           ]
 
-  builds_sound : (key : Key) → IsOfBuilds c facts key → IsSound key
-  builds_sound key (inl is) =
+  builds_sound : (key : Key) → Contains (build_keys_in c facts) key → IsSound key
+  builds_sound key is =
       let made = build_made c facts key is in (
         own made.section made.code key made.of_bans made.made (made.holds c facts key is),
         built_first key made is,
       )
-  builds_sound key (inr is) = let made = deprecated_made c key is in (
-    (
-      subst (λ (t : Section). IsTrue (is_of_bans t)) (sym made.section_is) refl,
-      subst (λ (e : DiagnosticCode). HoldsBy e c facts key) (sym made.code_is) is,
-    ),
-    deprecated_first key made,
-  )
 
   sound : (key : Key) → ByRule key → IsSound key
   sound key (inl is) = in_rules (ban_rules c.policy c.graph) bans_sound key is
@@ -252,7 +246,7 @@ module _ (c : Circumstances) (facts : Facts) (key : Key) where
   manifest is = inl (inr (inr (inr (inr (inl is)))))
 
   build : Contains (build_keys_in c facts) key → IsEither
-  build is = inl (inr (inr (inr (inr (inr (inl is))))))
+  build is = inl (inr (inr (inr (inr (inr is)))))
 
 whole_as : (d : Code) (c : Circumstances) (facts : Facts) (key : Key) → HoldsAs d c facts key → IsEither c facts key
 whole_as code.Banned c facts key is = ban c facts key 0 _ (omega arith) refl is
@@ -295,9 +289,10 @@ whole_as code.UnmatchedGlob c facts key is = build c facts key is
 
 whole_by : (d : DiagnosticCode) (c : Circumstances) (facts : Facts) (key : Key) → IsTrue (is_of_bans key.section)
     → HoldsBy d c facts key → IsEither c facts key
-whole_by Deprecated c facts key mine is = inl (inr (inr (inr (inr (inr (inr is))))))
+whole_by Deprecated c facts key mine is = absurd (not_of_bans key.section (as_deprecated c key is) mine)
 whole_by (Bans d) c facts key mine is = whole_as d c facts key is
 whole_by (License d) c facts key mine is = absurd (not_licensed d c.licensing c.graph key mine is)
+whole_by Expired c facts key mine is = absurd (not_of_bans key.section (as_expired c.expired key is) mine)
 
 -- the keys that all rules add
 pub adds_by_rule : (c : Circumstances) (facts : Facts) (old one two three four five new : List Key)
@@ -306,7 +301,7 @@ pub adds_by_rule : (c : Circumstances) (facts : Facts) (old one two three four f
     → Adds (IsDuplicate c.policy c.graph facts.chains) two three
     → Adds (IsOfFeatures c.policy c.graph) three four
     → Adds (IsOfManifests c.policy c.graph facts.chains c.view) four five
-    → Adds (IsOfBuilds c facts) five new
+    → Adds (Contains (build_keys_in c facts)) five new
     → Adds (IsByRule c facts) old new
 adds_by_rule c facts old one two three four five new bans skips duplicates features manifests builds =
     let banned = Contains (keys_of_rules (ban_rules c.policy c.graph)) in
@@ -314,7 +309,7 @@ adds_by_rule c facts old one two three four five new bans skips duplicates featu
     let doubled = IsDuplicate c.policy c.graph facts.chains in
     let featured = IsOfFeatures c.policy c.graph in
     let written = IsOfManifests c.policy c.graph facts.chains c.view in
-    let built = IsOfBuilds c facts in
+    let built = Contains (build_keys_in c facts) in
     adds_then banned (λ key. skipped key ⊎ (doubled key ⊎ (featured key ⊎ (written key ⊎ built key)))) old one new bans
     (adds_then skipped (λ key. doubled key ⊎ (featured key ⊎ (written key ⊎ built key))) one two new skips
     (adds_then doubled (λ key. featured key ⊎ (written key ⊎ built key)) two three new duplicates

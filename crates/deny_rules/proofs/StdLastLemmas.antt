@@ -29,7 +29,6 @@ use Rattle.deny_spec_report.specs.StdReplacements.{unmatched_ignore_keys_in}
 use Rattle.deny_spec_report.specs.Wrappers.{unused_wrapper_keys}
 use Rattle.deny_base_lists.proofs.Members.{Contains-from_flat_map, from_contains_map, no_member}
 use Rattle.deny_base_lists.proofs.Orders.{then-less}
-use Rattle.deny_spec_report.proofs.BuildMade.{MadeDeprecated}
 use Rattle.deny_spec_report.proofs.Made.{Made, replaced_made, unmatched_ignore_made}
 use Rattle.deny_std.specs.Found.{IsOfStd}
 
@@ -156,19 +155,5 @@ of_unused d key here below std unused = record {
         (by_code d unused.entry there.entry below))
     | inr replaced ↦ in_sections key other section.Unused section.Std
         (unused_made d key unused).section_is (replaced_made c other replaced).section_is std
-  ];
-}
-
--- ---- the deprecated key
-
-pub deprecated_first : (key : Key) → MadeDeprecated key → IsFirst key
-unfolding section_number
-deprecated_first key made = record {
-  here = subst (λ (d : DiagnosticCode). IsTrue (is_reported_here d)) (sym made.code_is) refl;
-  first = λ c other is. elim is as (λ _. key_cmp key other ≡ Less) [
-    | inl ignored ↦ in_sections key other section.Deprecated section.Unused made.section_is
-        (unmatched_ignore_made c other ignored).section_is refl
-    | inr replaced ↦ in_sections key other section.Deprecated section.Std made.section_is
-        (replaced_made c other replaced).section_is refl
   ];
 }

@@ -16,6 +16,9 @@
 //! The findings of the crate rules are one list, and those on replaced crates another, which follows the first as a
 //! whole: neither is sorted again. The check finds all keys before it reports any, so running out of memory while it
 //! finds them leaves the list as it was.
+//!
+//! The warnings about the policy itself are none of this check's: they come of reading the policy, whatever the graph
+//! is, and their section is before all others. So the check needs no part of a policy that expired.
 #![tactic(auto)]
 
 pub mod bans;

@@ -1,5 +1,5 @@
 //! What is seen of packages, and their keys, where a policy has a build configuration.
-ghost use Rattle.std.specs.Prelude.{◌≡◌, ◌++◌, ◌<◌, IfOk, None, OnOk, Some, option_copied};
+ghost use Rattle.std.specs.Prelude.{◌≡◌, ◌++◌, ◌<◌, IfOk, None, OnOk, option_copied};
 ghost use Rattle.deny_build.specs.ScanningOf.{scanning_of};
 ghost use Rattle.deny_cfg_build.specs.BuildingView.{building_view};
 ghost use Rattle.deny_cfg.specs.PolicyView.{building_of};
@@ -16,7 +16,7 @@ use deny_base::{Hit, Key};
 use deny_base_disk::PackageFiles;
 use deny_base_lists::{List, NoMemory, Steps};
 use deny_base_unread::Unread;
-use deny_build::{BuildCtx, add_build_keys, add_deprecated_keys, bypass_hits};
+use deny_build::{BuildCtx, add_build_keys, bypass_hits};
 use deny_build_scan::see_packages;
 use deny_cfg::bans::cfg::ValidConfig;
 use deny_cfg_build::ValidBuildConfig;
@@ -139,7 +139,7 @@ fn build_ctx<'a>(
     }
 }
 
-/// Adds the keys of build scripts and packages, and of the deprecated key for them.
+/// Adds the keys of build scripts and packages.
 pub fn add_package_keys(
     alloc: Global,
     cfg: &ValidConfig,
@@ -151,23 +151,9 @@ pub fn add_package_keys(
         scan.now.packages) keys.old keys.new) }
 {
     match &cfg.build {
-        Some(config) => add_keys_of(alloc, config, krates, scan, keys),
+        Some(config) => add_build_keys(alloc, &build_ctx(config, krates, scan), keys),
         None => Ok(()),
     }
-}
-
-fn add_keys_of(
-    alloc: Global,
-    config: &ValidBuildConfig,
-    krates: &Krates,
-    scan: &PackageScan,
-    keys: &mut List<Key>,
-) -> Result<(), NoMemory>
-    ensures { OnOk result (Adds (IsOfPackages (Some (building_view config.now)) krates.now
-        scan.now.reached.items scan.now.packages) keys.old keys.new) }
-{
-    add_build_keys(alloc, &build_ctx(config, krates, scan), keys)?;
-    add_deprecated_keys(alloc, config, keys)
 }
 
 /// Appends the hits of bypasses.

@@ -4,6 +4,7 @@ pub mod Counting
 pub mod Crates
 pub mod DiagParts
 pub mod Duplicates
+pub mod Expired
 pub mod Facts
 pub mod Graph
 pub mod Groups

@@ -121,6 +121,7 @@ module _ (c : Circumstances) (facts : Facts) (taken : List EntryId) (unhit : Are
       record {
         deprecated = λ of. same_listed (deprecated_keys_in c) (deprecated_keys_in (without_bypasses_in c taken)) key
             false refl (deprecated_stay c taken);
+        expired = λ of. (λ unnamed is. is, λ is. (is, refl));
         bans = bans_hold c facts taken key p.skip p.skip_tree p.replacing c.licensing builds_left
             (unhit.no_wrapper key.entry);
         allow_list = allow_list_holds c facts taken key p.deny p.skip p.skip_tree p.replacing c.licensing builds_left;

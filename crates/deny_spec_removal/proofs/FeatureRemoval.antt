@@ -1,5 +1,5 @@
 -- The keys of features hold still where entries of other parts are taken out.
-use Rattle.std.proofs.Common.{◌≡◌, ◌⊎◌, List, Option, false, refl}
+use Rattle.std.proofs.Common.{◌≡◌, List, Option, false, refl}
 use Rattle.std.proofs.Math.Logic.{⊎_map}
 use Rattle.deny_base.specs.declared.entry.EntryId.{EntryId}
 use Rattle.deny_base.specs.declared.key.Key.{Key}

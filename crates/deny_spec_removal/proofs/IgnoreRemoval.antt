@@ -211,6 +211,7 @@ module _ (c : Circumstances) (facts : Facts) (taken : List EntryId) (unhit : Are
       let p = c.policy in
       record {
         deprecated = λ of. (λ unnamed is. is, λ is. (is, refl));
+        expired = λ of. (λ unnamed is. is, λ is. (is, refl));
         bans = bans_hold c facts taken key p.skip p.skip_tree ignores_left c.licensing c.building
             (unhit.no_wrapper key.entry);
         allow_list = allow_list_holds c facts taken key p.deny p.skip p.skip_tree ignores_left c.licensing c.building;

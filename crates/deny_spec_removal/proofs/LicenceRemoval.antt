@@ -424,6 +424,7 @@ module _ (c : Circumstances) (facts : Facts) (taken : List EntryId) (unhit : Are
       let p = c.policy in
       record {
         deprecated = λ of. (λ unnamed is. is, λ is. (is, refl));
+        expired = λ of. (λ unnamed is. is, λ is. (is, refl));
         bans = bans_hold c facts taken key p.skip p.skip_tree p.replacing licences_left c.building
             (unhit.no_wrapper key.entry);
         allow_list = allow_list_holds c facts taken key p.deny p.skip p.skip_tree p.replacing licences_left c.building;

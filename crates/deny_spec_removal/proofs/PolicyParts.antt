@@ -9,7 +9,7 @@ use Rattle.deny_base.specs.KeyOrder.{key_cmp}
 use Rattle.deny_base.specs.declared.code.Code.{Code}
 use Rattle.deny_base.specs.declared.code.Code.TheVariants as code
 use Rattle.deny_base.specs.declared.code.DiagnosticCode.{DiagnosticCode}
-use Rattle.deny_base.specs.declared.code.DiagnosticCode.TheVariants.{Deprecated, Bans, License}
+use Rattle.deny_base.specs.declared.code.DiagnosticCode.TheVariants.{Deprecated, Bans, License, Expired}
 use Rattle.deny_base.specs.declared.entry.EntryId.{EntryId}
 use Rattle.deny_base.specs.declared.key.Key.{Key}
 use Rattle.deny_base.specs.declared.license_code.LicenseCode.{LicenseCode}
@@ -102,9 +102,10 @@ pub record BuildsHold (c rest : Circumstances) (facts : Facts) (taken : List Ent
   pub unmatched_path : HoldsStill c rest facts taken key (Bans code.UnmatchedPathBypass)
   pub unmatched_glob : HoldsStill c rest facts taken key (Bans code.UnmatchedGlob)
 
--- all parts, with the deprecated key and the licence check
+-- all parts, with the deprecated key, what expired and the licence check
 pub record PartsHold (c rest : Circumstances) (facts : Facts) (taken : List EntryId) (key : Key) : Type 0 where
   pub deprecated : HoldsStill c rest facts taken key Deprecated
+  pub expired : HoldsStill c rest facts taken key Expired
   pub bans : BansHold c rest facts taken key
   pub allow_list : AllowListHolds c rest facts taken key
   pub skips : SkipsHold c rest facts taken key
@@ -160,6 +161,7 @@ module _ (c rest : Circumstances) (facts : Facts) (taken : List EntryId) (key : 
   code_holds Deprecated = parts.deprecated
   code_holds (Bans d) = bans_code_holds d
   code_holds (License d) = parts.licences d
+  code_holds Expired = parts.expired
 
   key_there : names taken key ≡ false → Holds c facts key → Holds rest facts key
   key_there unnamed is = (code_holds key.code refl).0 unnamed is

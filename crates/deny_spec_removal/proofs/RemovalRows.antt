@@ -1,28 +1,30 @@
 -- Worked cases of removal: the keys and the hits before and after.
-use Rattle.std.proofs.Common.{◌≡◌, ℕ, [], ◌∷◌, codes, refl}
+use Rattle.std.proofs.Common.{◌≡◌, ℕ, [], ◌∷◌, None, codes, refl}
 use Rattle.std.specs.Prelude.{filter_map}
 use Rattle.deny_base.specs.Entry.{entry_kind_number}
 use Rattle.deny_base.specs.declared.code.Code.TheVariants as code
 use Rattle.deny_base.specs.declared.entry.EntryId.{EntryId}
 use Rattle.deny_base.specs.declared.entry.EntryKind.TheVariants.{LicenseAllow, LicenseException, Skip, SkipRoot}
 use Rattle.deny_base.specs.declared.entry.EntryKind.TheVariants.{Wrapper}
+use Rattle.deny_spec.specs.Expired.{PastWaiver, expired_key, expired_keys}
 use Rattle.deny_spec.specs.Hits.{all_hits, wrapper_hit}
 use Rattle.deny_spec.specs.Keys.{crate_key, unused_key}
 use Rattle.deny_spec.specs.Licensing.{Licensing}
 use Rattle.deny_spec.specs.Policy.{Policy}
 use Rattle.deny_spec.specs.View.{View}
+use Rattle.deny_spec_report.specs.Circumstances.{unseen_by, with_expired}
 use Rattle.deny_spec_report.specs.Licences.{exception_not_encountered_keys, licence_hits, not_encountered_keys}
 use Rattle.deny_spec_report.specs.Wildcards.{wildcard_keys}
 use Rattle.deny_spec_report.proofs.Cases.{all_count, app, ban_at, ban_keys, bans_on_cases, entry_at, on_cases, one_x}
 use Rattle.deny_spec_report.proofs.Cases.{plain}
-use Rattle.deny_spec_report.proofs.Cases.{span, root_of, skip_keys, skips_on_cases, spanned_at}
+use Rattle.deny_spec_report.proofs.Cases.{span, root_of, skip_keys, skips_on_cases, spanned_at, spec_at}
 use Rattle.deny_spec_report.proofs.LicenceRows.{allowed_at, alone, every, exception_at, granting, hit_by}
 use Rattle.deny_spec_report.proofs.LicenceRows.{licences_on_cases}
 use Rattle.deny_spec_report.proofs.LicenceRows.{mit, unmet, unmet_exception}
 use Rattle.deny_spec_report.proofs.ManifestCases.{any_version, behind, seeing, written}
 use Rattle.deny_spec_report.proofs.WildcardRows.{checking, one_holds, wildcards_on_cases}
 use Rattle.deny_spec_removal.specs.Dead.{unused_entry}
-use Rattle.deny_spec_removal.specs.Removal.{cut_licensing, is_taken, unnaming, without}
+use Rattle.deny_spec_removal.specs.Removal.{cut_licensing, is_taken, unnaming, without, without_in}
 use Rattle.deny_spec_removal.proofs.IgnoreCases.{hit_by_x, hits_by, ignore, ignores_on_cases, replaced_by, two_ignores}
 use Rattle.deny_spec_removal.proofs.IgnoreCases.{unmatched_by}
 
@@ -182,3 +184,24 @@ none_unmet = (refl, refl, refl, refl)
 kinds_apart : cut_licensing (exception 27 ∷ allowance 40 ∷ []) mit_twice ≡ mit_twice
 unfolding licences_on_cases mit_twice is_taken entry_kind_number
 kinds_apart = refl
+
+-- ---- a skip that expired is no entry that can go: the warning about it names none as unused, and stays
+
+past_skip : PastWaiver
+past_skip = record {
+  spec = spec_at (codes "q") 35;
+  expires = spanned_at (codes "2026-01-31") 40;
+  reason = None;
+}
+
+expired_not_dead : filter_map unused_entry (expired_keys (past_skip ∷ [])) ≡ []
+unfolding on_cases past_skip expired_key unused_entry
+expired_not_dead = refl
+
+expired_not_named : unnaming (skip ∷ []) (expired_keys (past_skip ∷ [])) ≡ expired_keys (past_skip ∷ [])
+unfolding on_cases past_skip expired_key is_taken entry_kind_number
+expired_not_named = refl
+
+expired_stays : (without_in (with_expired (unseen_by two_skips one_x 3) (past_skip ∷ [])) (skip ∷ [])).expired
+    ≡ past_skip ∷ []
+expired_stays = refl

@@ -6,10 +6,11 @@ use Rattle.std.proofs.lemmas.List.{map-append}
 use Rattle.deny_base.specs.declared.code.Code.{Code}
 use Rattle.deny_base.specs.declared.code.Code.TheVariants as code
 use Rattle.deny_base.specs.declared.code.DiagnosticCode.{DiagnosticCode}
-use Rattle.deny_base.specs.declared.code.DiagnosticCode.TheVariants.{Deprecated, Bans, License}
+use Rattle.deny_base.specs.declared.code.DiagnosticCode.TheVariants.{Deprecated, Bans, License, Expired}
 use Rattle.deny_base.specs.declared.entry.Hit.{Hit}
 use Rattle.deny_base.specs.declared.key.Key.{Key}
 use Rattle.deny_spec.specs.Bans.{not_allowed_keys}
+use Rattle.deny_spec.specs.Expired.{expired_key, expired_keys}
 use Rattle.deny_spec.specs.Hits.{all_hits, root_hit, skip_hit}
 use Rattle.deny_spec.specs.Skips.{unmatched_skip_keys, unmatched_skip_root_keys, unnecessary_skip_keys}
 use Rattle.deny_spec_report.specs.AllowList.{allowed_keys}
@@ -30,8 +31,8 @@ use Rattle.deny_spec_report.specs.Wrappers.{unused_wrapper_keys, wrapper_hits_of
 use Rattle.deny_spec_removal.specs.Renaming.{AreRenamed, KeepsApart, KeepsBypassesApart, KeepsLicencesApart, Renaming}
 use Rattle.deny_spec_removal.specs.Renaming.{renamed}
 use Rattle.deny_spec_removal.specs.Renaming.{renamed_as, renamed_ban, renamed_hit, renamed_in, renamed_key}
-use Rattle.deny_spec_removal.specs.Renaming.{renamed_root}
-use Rattle.deny_spec_removal.proofs.Anew.{AreAnew, keys_anew, keys_same, made_back, made_there, spanned}
+use Rattle.deny_spec_removal.specs.Renaming.{renamed_root, renamed_waiver}
+use Rattle.deny_spec_removal.proofs.Anew.{AreAnew, keys_anew, keys_same, made_anew, made_back, made_there, spanned}
 use Rattle.deny_spec_removal.proofs.BanRenaming as bans
 use Rattle.deny_spec_removal.proofs.BypassRenaming as bypasses
 use Rattle.deny_spec_removal.proofs.FeatureRenaming as features
@@ -167,6 +168,10 @@ module _ (r : Renaming) (c : Circumstances) (these those : Facts) (are : AreFact
   code_anew code.UnmatchedPathBypass of = builds_anew code.UnmatchedPathBypass of
   code_anew code.UnmatchedGlob of = builds_anew code.UnmatchedGlob of
 
+  expired_anew : expired_keys (renamed_in r c).expired ≡ map (spanned r) (expired_keys c.expired)
+  unfolding expired_key
+  expired_anew = made_anew (renamed_waiver r) expired_key expired_key (spanned r) c.expired (λ w. refl)
+
   key_anew : (d : DiagnosticCode) → key.code ≡ d → HoldsAnew d
   key_anew Deprecated of = keys_anew r (deprecated_keys_in c) (deprecated_keys_in (renamed_in r c)) key
       (bypasses.deprecated_anew r c)
@@ -175,6 +180,7 @@ module _ (r : Renaming) (c : Circumstances) (these those : Facts) (are : AreFact
     λ is. licences.licensed_there r c.licensing c.graph key apart_too d is,
     λ is. licences.licensed_back r c.licensing c.graph key apart_too d is,
   )
+  key_anew Expired of = keys_anew r (expired_keys c.expired) (expired_keys (renamed_in r c).expired) key expired_anew
 
   there_key : Holds c these key → Holds (renamed_in r c) those (renamed_key r key)
   there_key is = (key_anew key.code refl).0 is

@@ -3,10 +3,12 @@
 use Rattle.std.proofs.Common.{◌≡◌, ◌+◌, ℕ, [], ◌∷◌, Some, codes, map, refl, true}
 use Rattle.deny_base.specs.declared.code.Code.TheVariants as code
 use Rattle.deny_base.specs.declared.level.LintLevel.TheVariants.{Warn}
+use Rattle.deny_spec.specs.Expired.{PastWaiver, expired_key, expired_keys}
 use Rattle.deny_spec.specs.Keys.{crate_key, dependent_key, key_of, no_span, unused_key}
 use Rattle.deny_spec.specs.Licensing.{Licensing}
 use Rattle.deny_spec.specs.Match.{matches}
 use Rattle.deny_spec.specs.Policy.{AllowEntry, Ban, Entry, FeatureEntry, Policy, Root}
+use Rattle.deny_spec_report.specs.Circumstances.{unseen_by, with_expired}
 use Rattle.deny_spec_report.specs.Features.{is_enabled, is_mismatch_reported, is_mismatched, mismatched_keys}
 use Rattle.deny_spec_report.specs.Features.{mismatched_keys_of}
 use Rattle.deny_spec_report.specs.Features.{missing, unlisted}
@@ -20,7 +22,7 @@ use Rattle.deny_spec_report.proofs.LicenceRows.{licences_on_cases, mit, unmet, u
 use Rattle.deny_spec_report.proofs.ManifestCases.{any_version, behind, seeing, sharing_it, written}
 use Rattle.deny_spec_report.proofs.SharingRows.{sharing_on_cases, unused_at}
 use Rattle.deny_spec_report.proofs.WildcardRows.{checking, wildcards_on_cases}
-use Rattle.deny_spec_removal.specs.Renaming.{Renaming, renamed, renamed_key, renamed_licensing}
+use Rattle.deny_spec_removal.specs.Renaming.{Renaming, renamed, renamed_in, renamed_key, renamed_licensing}
 use Rattle.deny_spec_removal.proofs.IgnoreCases.{hit_by_x, hits_by, ignores_on_cases, two_ignores, unmatched_by}
 
 unfoldable pub farther : Renaming
@@ -184,3 +186,24 @@ licences_not_apart : licence_hits every (renamed_licensing all_at_once mit_twice
     ≡ hit_by (codes "x") 7 ∷ hit_by (codes "x") 7 ∷ excepted_by (codes "x") 7 ∷ excepted_by (codes "x") 7 ∷ []
 unfolding licences_on_cases mit_twice all_at_once
 licences_not_apart = refl
+
+-- ---- expired waivers: an entry, its day and its reason have a span each
+
+waiver_with : ℕ → PastWaiver
+waiver_with start = record {
+  spec = spec_at (codes "x") start;
+  expires = spanned_at (codes "2026-01-31") (start + 1);
+  reason = Some (spanned_at (codes "late") (start + 2));
+}
+
+waivers_farther : (renamed_in farther
+    (with_expired (unseen_by plain one_x 3) (waiver_with 20 ∷ waiver_with 30 ∷ []))).expired
+    ≡ waiver_with 120 ∷ waiver_with 130 ∷ []
+unfolding on_cases waiver_with farther
+waivers_farther = refl
+
+-- the warning about one shows its entry
+waiver_keys_farther : map (renamed_key farther) (expired_keys (waiver_with 20 ∷ []))
+    ≡ expired_keys (waiver_with 120 ∷ [])
+unfolding on_cases waiver_with farther expired_key
+waiver_keys_farther = refl

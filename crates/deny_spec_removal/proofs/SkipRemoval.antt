@@ -324,6 +324,7 @@ module _ (c : Circumstances) (facts : Facts) (taken : List EntryId)
   parts_hold : PartsHold c (without_skips_in c taken) facts taken key
   parts_hold = record {
     deprecated = λ of. (λ unnamed is. is, λ is. (is, refl));
+    expired = λ of. (λ unnamed is. is, λ is. (is, refl));
     bans = bans_hold c facts taken key skips trees c.policy.replacing c.licensing c.building
         (unhit.no_wrapper key.entry);
     allow_list = allow_list_holds c facts taken key c.policy.deny skips trees c.policy.replacing c.licensing

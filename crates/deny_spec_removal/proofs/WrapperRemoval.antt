@@ -313,6 +313,7 @@ module _ (c : Circumstances) (facts : Facts) (taken : List EntryId) (unhit : Are
       let p = c.policy in
       record {
         deprecated = λ of. (λ unnamed is. is, λ is. (is, refl));
+        expired = λ of. (λ unnamed is. is, λ is. (is, refl));
         bans = bans_still_hold;
         allow_list = allow_list_holds c facts taken key bans p.skip p.skip_tree p.replacing c.licensing c.building;
         skips = skips_hold c facts taken key bans p.replacing c.licensing c.building (unhit.no_skip key.entry)

@@ -102,6 +102,7 @@ without p taken = record p {
   replacing = option_map (cut_replacing taken) p.replacing;
 }
 
+-- the circumstances without these entries; what expired of the policy stays as it is
 abbrev pub without_in : Circumstances → List EntryId → Circumstances
 without_in c taken = record c {
   policy = without c.policy taken;

@@ -11,6 +11,7 @@ use Rattle.deny_base.specs.declared.span.Span.{Span}
 use Rattle.deny_base.specs.declared.span.Spanned.{Spanned}
 use Rattle.deny_spdx.specs.declared.requirement.Requirement.{Requirement}
 use Rattle.deny_spec.specs.Building.{AllowedPath, Building, Bypass, ScriptGlob}
+use Rattle.deny_spec.specs.Expired.{PastWaiver}
 use Rattle.deny_spec.specs.Graph.{Crate}
 use Rattle.deny_spec.specs.Licensing.{Exception, Licensing}
 use Rattle.deny_spec.specs.Policy as policy
@@ -128,11 +129,20 @@ renamed_building r b = record b {
   older_key = option_map r.span b.older_key;
 }
 
+-- an expired waiver, its day and its reason have a span each
+abbrev pub renamed_waiver : Renaming → PastWaiver → PastWaiver
+renamed_waiver r w = record {
+  spec = renamed_spec r w.spec;
+  expires = renamed_text r w.expires;
+  reason = option_map (renamed_text r) w.reason;
+}
+
 abbrev pub renamed_in : Renaming → Circumstances → Circumstances
 renamed_in r c = record c {
   policy = renamed r c.policy;
   licensing = option_map (renamed_licensing r) c.licensing;
   building = option_map (renamed_building r) c.building;
+  expired = map (renamed_waiver r) c.expired;
 }
 
 -- the key of the same finding: it has a new span where it shows an entry of the policy

@@ -35,6 +35,10 @@
 //! each requirement is granted as before. Dead entries of every kind are found by the hits of both checks, as a report
 //! has one list of hits.
 //!
+//! What expired of a policy stays where entries are taken out, and the warnings about it with it: an expired waiver is
+//! in no list of entries any more, so nothing hits it, and its warning names no entry as unused. Where spans are
+//! replaced, it has new ones like any entry.
+//!
 //! A law on removal for one kind takes entries of that kind alone; the law over all kinds takes any.
 //!
 //! Wildcards read only whether a crate counts, is marked and is in a skipped tree, so entries that can go change none

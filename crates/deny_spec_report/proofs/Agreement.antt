@@ -1,6 +1,6 @@
 -- Two facts that are true in the same circumstances agree, so the same keys hold by either, code by code.
 use Rattle.deny_base.specs.declared.code.DiagnosticCode.{DiagnosticCode}
-use Rattle.deny_base.specs.declared.code.DiagnosticCode.TheVariants.{Deprecated, Bans, License}
+use Rattle.deny_base.specs.declared.code.DiagnosticCode.TheVariants.{Deprecated, Bans, License, Expired}
 use Rattle.deny_base.specs.declared.key.Key.{Key}
 use Rattle.deny_spec_report.specs.Circumstances.{Circumstances}
 use Rattle.deny_spec_report.specs.Facts.{Facts, AreFacts}
@@ -12,6 +12,7 @@ module _ (c : Circumstances) (these those : Facts) (left : AreFacts c these) (ri
   by_alike Deprecated key is = is
   by_alike (Bans d) key is = as_alike c these those left right d key is
   by_alike (License d) key is = is
+  by_alike Expired key is = is
 
 pub holds_alike : (c : Circumstances) (these those : Facts) (key : Key) → AreFacts c these → AreFacts c those
     → Holds c these key → Holds c those key

@@ -67,7 +67,7 @@ unfolding both plain crate crate_of duplicate_level is_denied_multiple
 denied = refl
 
 -- two versions are enough, at level deny
-two_hold : IsDuplicate plain two_x all_count (duplicate_key (1 ∷ 2 ∷ []))
+pub two_hold : IsDuplicate plain two_x all_count (duplicate_key (1 ∷ 2 ∷ []))
 unfolding both two_x graph crate crate_of
 two_hold = (
   crate 1 (codes "x") 1,

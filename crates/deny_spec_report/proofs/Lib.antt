@@ -1,5 +1,6 @@
 pub mod Agreement
 pub mod BanRows
+pub mod BansAlone
 pub mod BuildAlike
 pub mod BuildCases
 pub mod BuildMade
@@ -8,6 +9,8 @@ pub mod Cases
 pub mod CountingRows
 pub mod DuplicateRows
 pub mod EachCode
+pub mod ExpiredMade
+pub mod ExpiredRows
 pub mod FeatureRows
 pub mod FirstHits
 pub mod HitRows
@@ -17,13 +20,13 @@ pub mod Joined
 pub mod Kept
 pub mod KeyRows
 pub mod LicenceRows
-pub mod Licensed
 pub mod Made
 pub mod ManifestCases
 pub mod PackageFileRows
 pub mod PackageRows
 pub mod PackageReportedRows
 pub mod Parts
+pub mod PolicyKeys
 pub mod SayingRows
 pub mod Sections
 pub mod SharingRows

@@ -3,7 +3,7 @@ use Rattle.std.proofs.Common.{◌≡◌, List, refl}
 use Rattle.std.specs.Prelude.{IsTrue}
 use Rattle.deny_base.specs.Code.{asks_no_file}
 use Rattle.deny_base.specs.declared.code.DiagnosticCode.{DiagnosticCode}
-use Rattle.deny_base.specs.declared.code.DiagnosticCode.TheVariants.{Deprecated, Bans, License}
+use Rattle.deny_base.specs.declared.code.DiagnosticCode.TheVariants.{Deprecated, Bans, License, Expired}
 use Rattle.deny_base.specs.declared.key.Key.{Key}
 use Rattle.deny_spec.specs.declared.package.Package.{Package}
 use Rattle.deny_spec.specs.View.{View}
@@ -22,18 +22,21 @@ module _ (c : Circumstances) (view : View) (packages : List Package) where
   by_there Deprecated facts key free is = is
   by_there (Bans d) facts key free is = code_there c view packages d facts key free is
   by_there (License d) facts key free is = is
+  by_there Expired facts key free is = is
 
   by_back : (d : DiagnosticCode) (facts : Facts) (key : Key) → IsTrue (asks_no_file d) → HoldsBy d anew facts key
       → HoldsBy d c facts key
   by_back Deprecated facts key free is = is
   by_back (Bans d) facts key free is = code_back c view packages d facts key free is
   by_back (License d) facts key free is = is
+  by_back Expired facts key free is = is
 
   message_by_alike : (d : DiagnosticCode) (key : Key) → IsTrue (asks_no_file d)
       → message_by d anew key ≡ message_by d c key
   message_by_alike Deprecated key free = refl
   message_by_alike (Bans d) key free = messages_alike c view packages d key free
   message_by_alike (License d) key free = refl
+  message_by_alike Expired key free = refl
 
   pub unseen_there : (facts : Facts) (key : Key) → IsTrue (asks_no_file key.code) → Holds c facts key
       → Holds anew facts key

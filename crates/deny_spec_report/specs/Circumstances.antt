@@ -2,6 +2,7 @@
 use Rattle.std.specs.Prelude.{ℕ, List, [], Option, None, Some}
 use Rattle.deny_spec.specs.Building.{Building}
 use Rattle.deny_spec.specs.declared.package.Package.{Package}
+use Rattle.deny_spec.specs.Expired.{PastWaiver}
 use Rattle.deny_spec.specs.Graph.{Graph}
 use Rattle.deny_spec.specs.Licensing.{Licensing}
 use Rattle.deny_spec.specs.Policy.{Policy}
@@ -19,6 +20,8 @@ pub record Circumstances : Type 0 where
   pub licensing : Option Licensing
   -- what the policy says of build scripts and packaged files; none where it has no such rules
   pub building : Option Building
+  -- the waivers of the policy that expired: they count nowhere, and each is warned about
+  pub expired : List PastWaiver
   pub graph : Graph
   -- the bytes of the table of replacements; none where there is no table
   pub table : List ℕ
@@ -39,12 +42,13 @@ policy_alone file = record { policy = file; lock = None; globs = None }
 abbrev pub policy_and_lock : ℕ → ℕ → FileNumbers
 policy_and_lock file lock = record { policy = file; lock = Some lock; globs = None }
 
--- the circumstances of a policy, a graph and a view, without licences, builds and a table
+-- the circumstances of a policy, a graph and a view, without licences, builds, expired waivers and a table
 abbrev pub seen_in : FileNumbers → Policy → Graph → View → Circumstances
 seen_in files p g view = record {
   policy = p;
   licensing = None;
   building = None;
+  expired = [];
   graph = g;
   table = [];
   view = view;
@@ -73,6 +77,10 @@ licensed c licensing = record c { licensing = licensing }
 -- circumstances with another policy on builds
 abbrev pub built : Circumstances → Option Building → Circumstances
 built c building = record c { building = building }
+
+-- circumstances in which other waivers of the policy expired
+abbrev pub with_expired : Circumstances → List PastWaiver → Circumstances
+with_expired c waivers = record c { expired = waivers }
 
 -- circumstances in which other manifests and packages were read
 abbrev pub seen_anew : Circumstances → View → List Package → Circumstances

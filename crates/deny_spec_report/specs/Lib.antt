@@ -6,6 +6,7 @@ pub mod Codes
 pub mod Diags
 pub mod Duplicates
 pub mod EachCode
+pub mod Expired
 pub mod Facts
 pub mod Features
 pub mod FirstMatch

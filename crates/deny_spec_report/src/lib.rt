@@ -29,6 +29,13 @@
 //! rules depend on the other's part; that is a law for the bans check (`bans_unlicensed`), and the clauses of the
 //! licence check hold in any circumstances with its licensing and graph.
 //!
+//! What expired of a policy is a part of the circumstances of its own. The other parts are those of the policy without
+//! it, so that no rule asks for a day: an expired waiver holds by its key alone, and changes nothing in the bans check
+//! (`bans_unexpired`).
+//!
+//! The warnings about the policy itself, which are made as it is read, have a section of their own (`is_of_policy`)
+//! and are of no check's rules. Their packs are of the bans check.
+//!
 //! Which crates count for the licence check is a question of its own (`include-dev` of `licenses`), answered by a test
 //! that is an argument of its definitions: two true tests agree on each crate of the graph, so the keys and the hits
 //! are the same.
@@ -72,7 +79,7 @@ mod laws;
 mod message;
 
 pub use laws::{
-    bans_unlicensed, first_hits, first_wrapper, joined_keys, message_unseen, one_check, one_report,
-    one_unseen,
+    bans_unexpired, bans_unlicensed, first_hits, first_wrapper, joined_keys, message_unseen,
+    one_check, one_report, one_unseen, policy_keys,
 };
 pub use message::{Message, pack_of};

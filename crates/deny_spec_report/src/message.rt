@@ -53,7 +53,9 @@ fn check_of_code(code: DiagnosticCode) -> Check
     ensures { result ≡ check_of_code code }
 {
     match code {
-        DiagnosticCode::Deprecated | DiagnosticCode::Bans(_) => Check::Bans,
+        DiagnosticCode::Deprecated | DiagnosticCode::Bans(_) | DiagnosticCode::Expired => {
+            Check::Bans
+        }
         DiagnosticCode::License(_) => Check::Licenses,
     }
 }

@@ -28,7 +28,7 @@ use Rattle.deny_base.specs.declared.entry.Witness.TheVariants.{Krate}
 use Rattle.deny_base.specs.declared.span.Span.{Span}
 use Rattle.deny_cfg.specs.PackageSpecOrExtended.{PackageSpecOrExtended}
 use Rattle.deny_cfg.specs.PolicyView.{entry_view}
-use Rattle.deny_cfg.specs.Reason.{Reason}
+use Rattle.deny_cfg.specs.Waiver.{Waiver}
 use Rattle.deny_spec.specs.Graph.{Crate, Graph, kid_of}
 use Rattle.deny_spec.specs.Hits.{hit_of}
 use Rattle.deny_spec.specs.Policy.{Entry, Replacing}
@@ -125,7 +125,7 @@ module _ (r : Replacing) (g : Graph) (said : Saying) where
         same is)) us first;
   }
 
-  module _ (entries : List (PackageSpecOrExtended Reason)) (ignore : r.ignore ≡ map entry_view entries)
+  module _ (entries : List (PackageSpecOrExtended Waiver)) (ignore : r.ignore ≡ map entry_view entries)
       (placed : ArePlaced g.crates) where
     -- the span of the first ignore that matches a crate is found by the crate's place
     span-there : (c : Crate) → Contains g.crates c
@@ -232,7 +232,7 @@ module _ (r : Replacing) (g : Graph) (said : Saying) where
           ∙ (ap (λ (ps : List ℕ). lookup (is_same_span span) (flat_map (ignored_at entries g) ps)) replaced
           ∙ witnesses-from span g.crates (λ c holds. holds))
 
-      hit-is : (e : PackageSpecOrExtended Reason) → hit_at g witnesses e ≡ ignore_hit r g said (entry_view e)
+      hit-is : (e : PackageSpecOrExtended Waiver) → hit_at g witnesses e ≡ ignore_hit r g said (entry_view e)
       unfolding ignore_hit hits_ignore ignore_of
       hit-is e =
           let h = λ (c : Crate). hit_of ReplacementIgnore e.spec.name.span (Krate (kid_of c)) in
@@ -246,7 +246,7 @@ module _ (r : Replacing) (g : Graph) (said : Saying) where
           ∙ (sym (filter_map-map (ignore_hit r g said) entry_view entries)
           ∙ ap (filter_map (ignore_hit r g said)) (sym ignore))
 
-      unmatched-is : looks_at_none r.scope ≡ false → (e : PackageSpecOrExtended Reason)
+      unmatched-is : looks_at_none r.scope ≡ false → (e : PackageSpecOrExtended Waiver)
           → is_unmatched witnesses e ≡ is_unmatched_ignore r g said (entry_view e)
       unmatched-is scope e =
           ap is_none (witnesses-is e.spec.name.span)
@@ -265,7 +265,7 @@ module _ (r : Replacing) (g : Graph) (said : Saying) where
           ∙ ap (map unmatched_of) (sym (filter-map (is_unmatched_ignore r g said) entry_view entries)
           ∙ ap (filter (is_unmatched_ignore r g said)) (sym ignore)))
 
-pub all-kept : (r : Replacing) (g : Graph) (said : Saying) (entries : List (PackageSpecOrExtended Reason))
+pub all-kept : (r : Replacing) (g : Graph) (said : Saying) (entries : List (PackageSpecOrExtended Waiver))
     (places reported : List ℕ) (witnesses : FirstWitnesses) (hits : List Hit) (us : List Unmatched)
     → r.ignore ≡ map entry_view entries → ArePlaced g.crates → looks_at_none r.scope ≡ false
     → places ≡ map (λ (c : Crate). c.place) (filter (is_replaced r g said) g.crates)

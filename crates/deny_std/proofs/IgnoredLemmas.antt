@@ -8,7 +8,7 @@ use Rattle.semver.specs.Identifiers.{parts_of}
 use Rattle.std.proofs.lemmas.Slice.Eq.{bytes_eq-Decides}
 use Rattle.deny_cfg.specs.PackageSpecOrExtended.{PackageSpecOrExtended}
 use Rattle.deny_cfg.specs.PolicyView.{entry_view}
-use Rattle.deny_cfg.specs.Reason.{Reason}
+use Rattle.deny_cfg.specs.Waiver.{Waiver}
 use Rattle.deny_cfg.specs.SpecView.{spec_view}
 use Rattle.deny_spec_report.specs.FirstMatch.{first_of}
 use Rattle.deny_spec_report.specs.StdReplacements.{ignore_span, ignores}
@@ -31,22 +31,22 @@ viewed-of : {A B C : Type 0} (f : B → C) (v : A → B) (o : Option A)
 viewed-of f v None = refl
 viewed-of f v (Some x) = refl
 
-abbrev does_match : Krate → PackageSpecOrExtended Reason → Bool
+abbrev does_match : Krate → PackageSpecOrExtended Waiver → Bool
 does_match k e = spec_matches (spec_view e.spec) k.name (parts_of k.version)
 
-named : (k : Krate) (e : PackageSpecOrExtended Reason) → does_match k e ≡ true → entry_name e ≡ k.name
+named : (k : Krate) (e : PackageSpecOrExtended Waiver) → does_match k e ≡ true → entry_name e ≡ k.name
 named k e is = (bytes_eq-Decides e.spec.name.value k.name).0 (and_parts (same_text e.spec.name.value k.name) _ is).0
 
-pub span-found : (entries : List (PackageSpecOrExtended Reason)) (k : Krate) (numbers : List ℕ) (names : List (List ℕ))
+pub span-found : (entries : List (PackageSpecOrExtended Waiver)) (k : Krate) (numbers : List ℕ) (names : List (List ℕ))
     (place : ℕ) → names ≡ map entry_name entries → IsStrictlyIncreasing numbers
     → ((i : ℕ) → Contains numbers i ↔ (slice_get names i ≡ Some k.name))
     → option_and_then (entry_span entries) (find (matches_at entries k) numbers)
     ≡ option_map ignore_span (first_of ignores (map entry_view entries) (crate_view place k))
 unfolding matches
 span-found entries k numbers names place are up exact =
-    found-of (λ (e : PackageSpecOrExtended Reason). e.spec.name.span) (slice_get entries)
+    found-of (λ (e : PackageSpecOrExtended Waiver). e.spec.name.span) (slice_get entries)
     (find (matches_at entries k) numbers)
-    ∙ (ap (option_map (λ (e : PackageSpecOrExtended Reason). e.spec.name.span))
+    ∙ (ap (option_map (λ (e : PackageSpecOrExtended Waiver). e.spec.name.span))
     (first-numbered (does_match k) entries entry_name k.name numbers up
     (subst (λ (ns : List (List ℕ)). (i : ℕ) → Contains numbers i ↔ (slice_get ns i ≡ Some k.name)) are exact)
     (named k))

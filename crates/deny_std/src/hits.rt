@@ -1,20 +1,18 @@
 //! The ignores that were hit, and those that were not hit.
-ghost use Rattle.std.specs.Prelude.{◌≡◌, ◌++◌, Contains, IfOk, OnOk, codes, filter_map, map, option_map};
+ghost use Rattle.std.specs.Prelude.{◌≡◌, ◌++◌, Contains, IfOk, OnOk, filter_map, map, option_map};
 ghost use Rattle.std.specs.FinMap.{IsAntisymmetric};
 ghost use Rattle.deny_base_lists.specs.Ascending.{AreFirst, Lists};
 ghost use Rattle.deny_base.specs.KeyOrder.{span_cmp};
 ghost use Rattle.deny_cfg.specs.PolicyView.{entry_view};
-ghost use Rattle.deny_cfg.specs.SpecView.{spec_view};
-ghost use Rattle.deny_spec.specs.DiagParts.{spec_text};
 ghost use Rattle.deny_std.specs.private.Hits.{hit_at, unmatched_in, unmatched_span};
 ghost use Rattle.deny_std.specs.private.Diags.{unmatched_of};
 
 use crate::diags::Unmatched;
 use crate::first_witnesses::FirstWitnesses;
 use deny_base::{EntryId, EntryKind, Hit, Span, Witness};
-use deny_base_lists::{List, NoMemory, Text, put_records_in_order};
-use deny_cfg::bans::cfg::SpecAndReason;
-use deny_cfg::{PackageSpec, Reason};
+use deny_base_lists::{List, NoMemory, put_records_in_order};
+use deny_cfg::bans::cfg::CrateSkip;
+use deny_cfg::{Waiver, spec_text};
 use deny_krates::{Krates, krate_at};
 use std::alloc::Global;
 
@@ -22,7 +20,7 @@ use std::alloc::Global;
 pub fn first_hits(
     alloc: Global,
     krates: &Krates,
-    entries: &[SpecAndReason],
+    entries: &[CrateSkip],
     witnesses: &FirstWitnesses,
 ) -> Result<List<Hit>, NoMemory>
     ensures { IfOk result (λ hits. hits ≡ filter_map (hit_at krates.now witnesses.now) entries.now) }
@@ -39,7 +37,7 @@ pub fn first_hits(
 fn hit_at(
     krates: &Krates,
     witnesses: &FirstWitnesses,
-    entry: &SpecAndReason,
+    entry: &CrateSkip,
 ) -> Result<Option<Hit>, NoMemory>
     ensures { IfOk result (λ hit. hit ≡ hit_at krates.now witnesses.now entry.now) }
 {
@@ -62,7 +60,7 @@ fn hit_at(
 /// The ignores that were not hit, by their spans; of those of one span the first.
 pub fn unmatched_of(
     alloc: Global,
-    entries: &[SpecAndReason],
+    entries: &[CrateSkip],
     witnesses: &FirstWitnesses,
 ) -> Result<List<Unmatched>, NoMemory>
     ensures listed { IfOk result (λ unmatched. Lists span_cmp
@@ -80,7 +78,7 @@ pub fn unmatched_of(
 
 fn add_unmatched(
     alloc: Global,
-    entries: &[SpecAndReason],
+    entries: &[CrateSkip],
     witnesses: &FirstWitnesses,
     unmatched: &mut List<Unmatched>,
 ) -> Result<(), NoMemory>
@@ -95,39 +93,27 @@ fn add_unmatched(
 }
 
 /// What is kept of an ignore that was not hit.
-fn unmatched_entry(alloc: Global, entry: &SpecAndReason) -> Result<Unmatched, NoMemory>
+fn unmatched_entry(alloc: Global, entry: &CrateSkip) -> Result<Unmatched, NoMemory>
     ensures { IfOk result (λ unmatched. unmatched ≡ unmatched_of (entry_view entry.now)) }
 {
     Ok(Unmatched {
         span: entry.spec.name.span,
         spec: spec_text(alloc, &entry.spec)?,
-        reason: reason_span(&entry.inner),
+        reason: reason_span(entry),
     })
 }
 
-/// A package spec as text: its name, and its requirement as it is written.
-#[tactic(auto, unfolding(deny_spec::specs::DiagParts::spec_text))]
-fn spec_text(alloc: Global, spec: &PackageSpec) -> Result<Text, NoMemory>
-    ensures { IfOk result (λ text. text ≡ spec_text (spec_view spec.now)) }
+fn reason_span(entry: &CrateSkip) -> Option<Span>
+    ensures { result ≡ option_map (λ reason. reason.span) (entry_view entry.now).reason }
 {
-    match &spec.req_text {
-        Some(written) => with_requirement(alloc, &spec.name.value, written),
-        None => Ok(spec.name.value.clone()?),
-    }
-}
-
-fn with_requirement(alloc: Global, name: &Text, written: &Text) -> Result<Text, NoMemory>
-    ensures { IfOk result (λ text. text ≡ name.now ++ (codes " = " ++ written.now)) }
-{
-    Ok(Text::from_string(format!(in alloc; "{name} = {written}")?))
-}
-
-fn reason_span(reason: &Option<Reason>) -> Option<Span>
-    ensures { result ≡ option_map (λ reason. reason.0.span) reason.now }
-{
-    match reason {
-        Some(reason) => Some(reason.0.span),
-        None => None,
+    match &entry.inner {
+        Some(
+            Waiver {
+                reason: Some(reason),
+                ..
+            },
+        ) => Some(reason.0.span),
+        _ => None,
     }
 }
 

@@ -8,7 +8,7 @@ ghost use Rattle.deny_std.specs.private.Ignored.{entry_name, entry_span, matches
 
 use deny_base::Span;
 use deny_base_lists::NoMemory;
-use deny_cfg::bans::cfg::SpecAndReason;
+use deny_cfg::bans::cfg::CrateSkip;
 use deny_cfg::{SpecIndex, match_krate};
 use deny_krates::Krate;
 use std::alloc::Global;
@@ -16,14 +16,14 @@ use std::alloc::Global;
 /// The ignores, with an index of the crate names in their specs.
 #[derive(Drop)]
 pub struct Ignored<'c> {
-    pub entries: &'c [SpecAndReason],
+    pub entries: &'c [CrateSkip],
     names: SpecIndex,
     ghost named: { names ≡ map entry_name entries.now },
 }
 
 impl<'c> Ignored<'c> {
     /// Indexes the ignores by the names in their specs.
-    pub fn new(alloc: Global, entries: &'c [SpecAndReason]) -> Result<Ignored<'c>, NoMemory>
+    pub fn new(alloc: Global, entries: &'c [CrateSkip]) -> Result<Ignored<'c>, NoMemory>
         ensures { IfOk result (λ ignored. ignored.entries.now ≡ entries.entry.now) }
     {
         let names = names_of(alloc, entries)?;
@@ -41,7 +41,7 @@ impl<'c> Ignored<'c> {
     }
 }
 
-fn names_of(alloc: Global, entries: &[SpecAndReason]) -> Result<SpecIndex, NoMemory>
+fn names_of(alloc: Global, entries: &[CrateSkip]) -> Result<SpecIndex, NoMemory>
     ensures { IfOk result (λ names. names ≡ map entry_name entries.now) }
 {
     let mut names = SpecIndex::new(alloc);
@@ -52,7 +52,7 @@ fn names_of(alloc: Global, entries: &[SpecAndReason]) -> Result<SpecIndex, NoMem
 }
 
 /// The span of the first ignore at one of these indices that matches a crate.
-fn first_span(entries: &[SpecAndReason], numbers: &[usize], krate: &Krate) -> Option<Span>
+fn first_span(entries: &[CrateSkip], numbers: &[usize], krate: &Krate) -> Option<Span>
     ensures { result ≡ option_and_then (entry_span entries.now)
         (find (matches_at entries.now krate.now) numbers.now) }
 {
@@ -64,7 +64,7 @@ fn first_span(entries: &[SpecAndReason], numbers: &[usize], krate: &Krate) -> Op
     None
 }
 
-fn matches_at(entries: &[SpecAndReason], krate: &Krate, number: usize) -> bool
+fn matches_at(entries: &[CrateSkip], krate: &Krate, number: usize) -> bool
     ensures { result ≡ matches_at entries.now krate.now number }
 {
     match entries.get(number) {
@@ -73,7 +73,7 @@ fn matches_at(entries: &[SpecAndReason], krate: &Krate, number: usize) -> bool
     }
 }
 
-fn span_at(entries: &[SpecAndReason], number: usize) -> Option<Span>
+fn span_at(entries: &[CrateSkip], number: usize) -> Option<Span>
     ensures { result ≡ entry_span entries.now number }
 {
     match entries.get(number) {

@@ -17,6 +17,7 @@ fn a_code_prints_its_word(rt: HostRuntime) -> Result<(), NoMemory> {
     assert!(rt; prints(&rt, DiagnosticCode::Deprecated, "deprecated")?);
     assert!(rt; prints(&rt, script, "build-script-not-allowed")?);
     assert!(rt; prints(&rt, license, "parse-error")?);
+    assert!(rt; prints(&rt, DiagnosticCode::Expired, "waiver-expired")?);
     Ok(())
 }
 

@@ -72,7 +72,7 @@ fn edges_shown(
     requires { length policy.now < 2 ^ 28 }
 {
     let mut files = Files::new(alloc);
-    match read_policy(alloc, policy, &mut files) {
+    match read_policy(alloc, policy, &mut files, None) {
         Ok(policy) => edges_by_policy(alloc, &policy.bans, graph, key),
         Err(_) => Ok(List::new(alloc)),
     }

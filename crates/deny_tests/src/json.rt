@@ -129,7 +129,7 @@ fn clashes_json(
 
 fn policy_json(alloc: Global) -> Result<String, NoMemory> {
     let mut files = Files::new(alloc);
-    match read_policy(alloc, CLASHING.as_bytes(), &mut files) {
+    match read_policy(alloc, CLASHING.as_bytes(), &mut files, None) {
         Err(PolicyError::Invalid(clashes)) => clashes_json(alloc, clashes, &files),
         _ => Ok(String::new(alloc)),
     }

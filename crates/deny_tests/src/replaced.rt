@@ -92,7 +92,7 @@ fn config(alloc: Global, policy: &'static [u8]) -> Option<StdReplacementConfig>
     requires { length policy.now < 2 ^ 28 }
 {
     let mut files = Files::new(alloc);
-    match read_policy(alloc, policy, &mut files) {
+    match read_policy(alloc, policy, &mut files, None) {
         Ok(policy) => policy.bans.std_replacements,
         Err(_) => None,
     }

@@ -22,6 +22,7 @@ fn inputs_of(alloc: Global, policy: &str, metadata: &str) -> Result<Inputs, NoMe
         replacements: None,
         home: None,
         registries: List::new(alloc),
+        today: None,
     })
 }
 

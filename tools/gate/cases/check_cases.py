@@ -4,7 +4,7 @@
 The expected output comes from a reading of the rules that is written here anew: it shares nothing with the program
 that the cases try, and stands in tools/gate/readings. The cases stand in build_cases, dead_cases, declaration_cases,
 feature_cases, hostile_cases, licence_check_cases, manifest_cases, metadata_cases, package_cases, policy_cases,
-rule_cases, std_cases, tree_cases and workspace_cases.
+rule_cases, std_cases, tree_cases, waiver_cases and workspace_cases.
 
     check_cases.py cases FOLDER                             writes the files stdin and stdout of crates/deny_cases
     check_cases.py files FOLDER CASE                        writes the files of a case, all of which are named from the
@@ -45,6 +45,7 @@ from policy_cases import policy_cases
 from rule_cases import rule_cases
 from std_cases import long_tables, std_cases
 from tree_cases import tree_cases
+from waiver_cases import waiver_cases
 from workspace_cases import workspace_cases
 
 # The statuses of runs that are done: the bits of the checks that failed.
@@ -156,8 +157,8 @@ def cases():
     subjects = (rule_cases, feature_cases, licence_check_cases, policy_cases, metadata_cases, std_cases)
     of_manifests = (manifest_cases, declaration_cases, workspace_cases)
     for part in (
-        words, outside, *subjects, tree_cases, dead_cases, *of_manifests, build_cases, package_cases, hostile_cases,
-        long_texts, long_tables, long_manifests
+        words, outside, *subjects, tree_cases, dead_cases, *of_manifests, build_cases, package_cases, waiver_cases,
+        hostile_cases, long_texts, long_tables, long_manifests
     ):
         for one in filter(is_wanted, part()):
             yield from in_turn(with_manifests(one))
@@ -357,9 +358,9 @@ def place_of_label(fields):
 def trees_told(case, answer):
     """The trees of each finding as text, which is also what the values of its line say."""
     texts = [text_of_case(case["files"][path]) for path in paths_of(case["words"])]
-    policy, graph = read_policy(texts[0]), read_metadata(texts[1])
-    disk = disk_of(case)
-    seen, built = Seen(graph, disk), Built(policy, graph, disk, Options(case["words"]).home)
+    disk, options = disk_of(case), Options(case["words"])
+    policy, graph = read_policy(texts[0], options.today), read_metadata(texts[1])
+    seen, built = Seen(graph, disk), Built(policy, graph, disk, options.home)
     found = findings_of(policy, graph, table_for(policy, *texts[2:] or [None]), seen, built)
     trees = Trees(graph)
     written = ["".join(text_of(graph, tree) for tree in trees.of_finding(finding)) for finding in found]
@@ -459,7 +460,7 @@ def write_files(folder, name):
 def check(words):
     """What the program writes on these files, and its status."""
     texts, options = [Path(path).read_bytes() for path in paths_of(words)], Options(words)
-    written, status = report(*texts, disk=RealDisk(), registries=options.registries, home=options.home)
+    written, status = report(*texts, disk=RealDisk(), options=options)
     (sys.stdout if status in DONE else sys.stderr).write(written)
     return status
 

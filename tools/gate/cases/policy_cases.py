@@ -31,6 +31,8 @@ OF_EACH_KIND = {
 LEVELS = ("text", ['"allow"', '"warn"', '"deny"'], ['"forbid"', '""', '"Deny"'])
 FLAG = ("boolean", ["true", "false"], [])
 TEXT = ("text", ['"why"', '""', "'''\nwhy\n'''"], [])
+# Where no day is handed in, as here; the waivers of waiver_cases have one.
+DAY = ("text", ['"2026-01-31"', "'2024-02-29'", '"0000-01-01"'], ['"2025-02-29"', '"2026-1-31"', '""'])
 TEXTS = ("array", ["[]", '["a"]', '["a", "b",]'], [])
 SCOPES = ("text", ['"all"', '"workspace"', '"transitive"', '"none"'], ['"None"', '"members"'])
 UNREAD = ("any", [], [])
@@ -68,12 +70,12 @@ TABLES = {
         "wrappers": TEXTS, "deny-multiple-versions": FLAG, "reason": TEXT, "use-instead": TEXT,
     }),
     "allow entry": ('[bans]\nallow = [{ crate = "app" }, { crate = "x", %s }]\n', {"reason": TEXT}),
-    "skip entry": ('[bans]\nskip = [{ crate = "x", %s }]\n', {"reason": TEXT}),
+    "skip entry": ('[bans]\nskip = [{ crate = "x", %s }]\n', {"reason": TEXT, "expires": DAY}),
     "skip-tree entry": ('[bans]\nskip-tree = [{ crate = "x", %s }]\n', {
         "depth": (
             "integer", ["0", "1", "4294967295", "0x10", "1_0", "+3"], ["-1", "4294967296", "-9223372036854775808"]
         ),
-        "reason": TEXT,
+        "reason": TEXT, "expires": DAY,
     }),
     "features entry": (
         '[bans]\nfeatures = [{ crate = "x", %s }]\n', {"allow": TEXTS, "deny": TEXTS, "exact": FLAG, "reason": TEXT}
@@ -86,6 +88,7 @@ TABLES = {
     }),
     "bypass": ('[bans.build]\nbypass = [{ crate = "x", %s }]\n', {
         "build-script": CHECKSUM, "required-features": TEXTS, "allow-globs": TEXTS, "allow": ("array", ["[]"], []),
+        "expires": DAY,
     }),
     "path of a bypass": (
         '[bans.build]\nbypass = [{ crate = "x", allow = [{ path = "p", %s }] }]\n', {"checksum": CHECKSUM}
@@ -103,7 +106,10 @@ TABLES = {
         "version": UNREAD, "confidence-threshold": UNREAD, "allow": LICENCES, "exceptions": ("array", ["[]"], []),
         "private": ("table", ["{}", "{ ignore = true }"], []), "include-dev": FLAG, "unused-allowed-license": LEVELS,
     }),
-    "licence exception": ('[licenses]\nexceptions = [{ crate = "x", %s }]\n', {"allow": LICENCES}),
+    "licence exception": ('[licenses]\nexceptions = [{ crate = "x", %s }]\n', {"allow": LICENCES, "expires": DAY}),
+    "ignore entry": (
+        "[bans.std-replacements]\nignore = [{ crate = 'x', %s }]\n", {"reason": TEXT, "expires": DAY}
+    ),
     "private licences": (
         "[licenses]\nallow = ['MIT']\n[licenses.private]\nregistries = ['a']\n%s\n", {"ignore": FLAG}
     ),
@@ -114,10 +120,11 @@ TABLES = {
 # What the tables are tried on that the rules read by now.
 JUDGED = dict.fromkeys(("bans", "deny entry", "allow entry", "skip entry", "skip-tree entry"), BOTH_X)
 JUDGED.update(dict.fromkeys(("licenses", "licence exception", "private licences", "private registries"), LICENSED_X))
-JUDGED.update({"features entry": FEATURED_X, "std-replacements": PUBLIC_X})
+JUDGED.update({"features entry": FEATURED_X, "std-replacements": PUBLIC_X, "ignore entry": PUBLIC_X})
 OF_BUILDS = ("build", "bypass", "path of a bypass")
 JUDGED.update(dict.fromkeys(OF_BUILDS, BUILT_X))
-MORE = {"std-replacements": {"table": WORKED}, **dict.fromkeys(OF_BUILDS, {"files": FILES_OF_X})}
+OF_STD = ("std-replacements", "ignore entry")
+MORE = {**dict.fromkeys(OF_STD, {"table": WORKED}), **dict.fromkeys(OF_BUILDS, {"files": FILES_OF_X})}
 
 
 def values_of(kind, good, bad):

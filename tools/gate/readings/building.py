@@ -14,10 +14,6 @@ BUILTIN = (
     b'"*.zsh"]\n'
 )
 UNREADABLE = "the file could not be read"
-DEPRECATED = (
-    "[bans.allow-build-scripts] has been deprecated in favor of [bans.build.allow-build-scripts], "
-    "this will become an error in the future"
-)
 
 # ---- what a policy says
 
@@ -64,7 +60,6 @@ class Building:
         older = "build" not in policy.bans
         said = {"executables": "allow", "interpreted": "warn"} if older else {}
         says = lambda name, otherwise: said.get(name, policy.build(name, otherwise))
-        self.older_key = policy.bans["allow-build-scripts"].span if older else None
         self.scripts = policy.get("allow-build-scripts", None) if older else policy.build("allow-build-scripts", None)
         self.executables, self.interpreted = says("executables", "deny"), says("interpreted", "allow")
         written = policy.build("script-extensions", [])
@@ -328,11 +323,6 @@ class Built:
             if ("bypass", bypass.span) not in self.hits:
                 labels = [Label(bypass.span, "unmatched bypass")]
                 self.found.append(unused("unmatched-bypass", "crate build bypass was not encountered", labels))
-        if building.older_key is not None:
-            labels = [Label(building.older_key, "")]
-            self.found.append(
-                Finding("deprecated", "deprecated", "warning", DEPRECATED, labels, entry=building.older_key)
-            )
 
 
 def bypass_entries(policy):

@@ -1,16 +1,19 @@
-"""A policy: from a text to its entries, to the list of its faults, or to the list of what contradicts itself in it.
+"""A policy: from a text to its entries, to the list of its faults, or to the list of what contradicts itself in it; and
+what of it counts on a day.
 
 A value's range is that of the reading of TOML, in bytes. A table is described by its keys and how the value of each is read.
+A day is its text, as `2026-01-31`: such texts are ordered as the days are.
 """
 
 import re
+from calendar import isleap, mdays
 from collections import namedtuple
 
 from readings import globs, toml
 from readings.licences import requirement_of
 from readings.versions import matches, read_requirement
 
-FAULT_KINDS = ["not-utf8", "grammar", "clash", "unknown", "missing", "wrong-kind", "unreadable"]
+FAULT_KINDS = ["not-utf8", "grammar", "clash", "unknown", "missing", "wrong-kind", "unreadable", "no-today"]
 
 # A value that was read, and its range.
 Spanned = namedtuple("Spanned", "value span")
@@ -32,10 +35,10 @@ class Faults(Exception):
 
 
 class At:
-    """A value of the policy: its path, the text around it, and the list that faults go to."""
+    """A value of the policy: its path, the text around it, the day at hand or None, and the list that faults go to."""
 
-    def __init__(self, place, path, text, faults):
-        self.place, self.path, self.text, self.faults = place, path, text, faults
+    def __init__(self, place, path, text, today, faults):
+        self.place, self.path, self.text, self.today, self.faults = place, path, text, today, faults
         self.span = place.span
 
     def kind(self):
@@ -49,7 +52,7 @@ class At:
         self.faults.append((kind, key, span or self.span))
 
     def inner(self, name, place):
-        return At(place, self.path + (name,), self.text, self.faults)
+        return At(place, self.path + (name,), self.text, self.today, self.faults)
 
     def want(self, kind):
         if self.kind() != kind:
@@ -93,6 +96,22 @@ def flag(at):
 
 def text(at):
     return at.take("text")
+
+
+def is_day(written):
+    """Whether a text is that of a day of the calendar."""
+    form = re.fullmatch("([0-9]{4})-([0-9]{2})-([0-9]{2})", written)
+    year, month, day_ = map(int, form.groups()) if form else (0, 0, 0)
+    return 1 <= month <= 12 and 1 <= day_ <= mdays[month] + (month == 2 and isleap(year))
+
+
+def day(at):
+    """A day, as a text or as a date of TOML, which is to be held to the day at hand."""
+    kind = "date" if at.kind() == "date" else "text"
+    read = at.read(kind, lambda written: written if is_day(written) else None)
+    if read is not None and read.value is not None and at.today is None:
+        at.fault("no-today")
+    return read
 
 
 def array(read):
@@ -234,13 +253,14 @@ TEXTS = array(text)
 CHECKSUM = matching("[0-9A-Fa-f]{64}")
 ARE_SMALL = lambda version: all(int(part) < 2**32 for part in version.split("."))
 RUST_VERSION = matching(r"[0-9]+\.[0-9]+(\.[0-9]+)?", ARE_SMALL)
-WITH_REASON = entry(reason=text)
+WAIVER = entry(reason=text, expires=day)
 
 BYPASS = entry_table(
     build_script=CHECKSUM,
     required_features=TEXTS,
     allow_globs=TEXTS,
     allow=array(table({"path": text, "checksum": CHECKSUM}, required=["path"])),
+    expires=day,
 )
 
 BUILD = {
@@ -259,7 +279,7 @@ STD_REPLACEMENTS = {
     "scope": SCOPE,
     "level": LEVEL,
     "rust-version": RUST_VERSION,
-    "ignore": array(WITH_REASON),
+    "ignore": array(WAIVER),
     "ignore-rust-version": SCOPE,
 }
 
@@ -268,13 +288,13 @@ BANS = {
     "multiple-versions-include-dev": flag,
     "highlight": words("simplest-path", "lowest-version", "all"),
     "deny": array(entry(wrappers=TEXTS, deny_multiple_versions=flag, reason=text, use_instead=text)),
-    "allow": array(WITH_REASON),
+    "allow": array(entry(reason=text)),
     "allow-workspace": flag,
     "features": array(entry_table(allow=TEXTS, deny=TEXTS, exact=flag, reason=text)),
     "external-default-features": LEVEL,
     "workspace-default-features": LEVEL,
-    "skip": array(WITH_REASON),
-    "skip-tree": array(entry(depth=whole_number(2**32), reason=text)),
+    "skip": array(WAIVER),
+    "skip-tree": array(entry(depth=whole_number(2**32), reason=text, expires=day)),
     "wildcards": LEVEL,
     "allow-wildcard-paths": flag,
     "allow-build-scripts": array(entry()),
@@ -291,7 +311,7 @@ LICENSES = {
     "version": unread,
     "confidence-threshold": unread,
     "allow": LICENCES,
-    "exceptions": array(entry_table(required=["allow"], allow=LICENCES)),
+    "exceptions": array(entry_table(required=["allow"], allow=LICENCES, expires=day)),
     "private": table({"ignore": flag, "registries": TEXTS}),
     "include-dev": flag,
     "unused-allowed-license": LEVEL,
@@ -299,12 +319,48 @@ LICENSES = {
 
 TABLES = {"bans": BANS, "licenses": LICENSES}
 
+# The lists whose entries can expire.
+WAIVERS = [
+    ("bans", "skip"), ("bans", "skip-tree"), ("bans", "build", "bypass"), ("bans", "std-replacements", "ignore"),
+    ("licenses", "exceptions"),
+]
+
+
+def entries_at(tables, path):
+    """The entries of a list, none where it is not written."""
+    name, *rest = path
+    if name not in tables:
+        return []
+    return entries_at(tables[name].value, rest) if rest else tables[name].value
+
+
+def with_entries_at(tables, path, kept):
+    """The tables with these entries as a list, where it is written."""
+    name, *rest = path
+    if name not in tables:
+        return tables
+    value = with_entries_at(tables[name].value, rest, kept) if rest else kept
+    return {**tables, name: Spanned(value, tables[name].span)}
+
 
 class Policy:
-    """What `[bans]` says, and `[licenses]`, which is None where it is not written, and the text around them."""
+    """What `[bans]` says, and `[licenses]`, which is None where it is not written, the text around them, and the
+    waivers that expired and stand in no list any more, by their ranges."""
 
-    def __init__(self, text, bans, licenses):
-        self.text, self.bans, self.licenses = text, bans, licenses
+    def __init__(self, text, tables, expired=()):
+        value = lambda name, otherwise: tables[name].value if name in tables else otherwise
+        self.bans, self.licenses = value("bans", {}), value("licenses", None)
+        self.text, self.tables, self.expired = text, tables, list(expired)
+
+    def on(self, today):
+        """What counts of it on a day, which is there where a waiver says how long it counts."""
+        tables, expired = self.tables, []
+        is_past = lambda one: "expires" in one.more and one.get("expires") < today
+        for path in WAIVERS:
+            listed = entries_at(tables, path)
+            tables = with_entries_at(tables, path, [one for one in listed if not is_past(one)])
+            expired += filter(is_past, listed)
+        return Policy(self.text, tables, sorted(expired, key=lambda one: one.spec.span))
 
     def get(self, name, otherwise):
         return self.bans[name].value if name in self.bans else otherwise
@@ -345,15 +401,19 @@ def read_tree(text):
         raise Faults([("clash", "", clash.span)])
 
 
-def read_policy(text):
-    """The policy of a text without faults."""
+def written_policy(text, today=None):
+    """What a text without faults writes, whichever of it counts."""
     root, faults = read_tree(text), []
-    at = lambda name: At(root.entries[name], (name,), text, faults)
+    at = lambda name: At(root.entries[name], (name,), text, today, faults)
     read = {name: table(fields)(at(name)) for name, fields in TABLES.items() if name in root.entries}
     if faults:
         raise Faults(faults)
-    value = lambda name, otherwise: read[name].value if name in read else otherwise
-    return Policy(text, value("bans", {}), value("licenses", None))
+    return Policy(text, read)
+
+
+def read_policy(text, today=None):
+    """The policy of a text without faults: what counts of it on a day, which it needs where a waiver can expire."""
+    return written_policy(text, today).on(today)
 
 
 # ---- what contradicts itself
@@ -430,7 +490,7 @@ def absolute_paths(policy):
 
 
 def clashes(policy):
-    """What contradicts itself in a policy without faults, kind by kind, and each kind by the places of its labels."""
+    """What contradicts itself in what a text writes, kind by kind, and each kind by the places of its labels."""
     bans, allowed, skipped = policy.banned(), policy.entries("allow"), policy.entries("skip")
     kinds = [
         several_and_wrapped(policy),

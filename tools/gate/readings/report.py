@@ -11,7 +11,8 @@ from readings.features import feature_rules
 from readings.licensing import licence_rules
 from readings.manifests import Seen
 from readings.metadata import Fault, read_metadata
-from readings.policy import Faults, clashes, read_policy
+from readings.noticed import policy_rules
+from readings.policy import Faults, clashes, is_day, read_policy, written_policy
 from readings.replaced import std_rules, table_for
 from readings.replacements import Bad
 from readings.rules import Rules, crate_rules, in_order
@@ -79,13 +80,50 @@ def fault_value(fault):
     return {"end": end, "key": key, "kind": kind, "start": start}
 
 
+# ---- words
+
+
+REGISTRY_OPTION = re.compile("--registry=([^=]+)=(.+)", re.DOTALL)
+HOME_OPTION = re.compile("--home=(.+)", re.DOTALL)
+DAY_OPTION = re.compile("--today=(.+)", re.DOTALL)
+
+
+class Options:
+    """The options behind a command: the registries, each its name and its address, the folder of cargo and the day,
+    each of which can be named once, or None, and how many words they are."""
+
+    def __init__(self, words):
+        self.registries, self.home, self.today, self.count = [], None, None, 0
+        for word in words[1:] if words[:1] == ["check"] else []:
+            if not self.takes(word):
+                break
+            self.count += 1
+
+    def takes(self, word):
+        """Whether a word is an option, which is added to them."""
+        registry, home, today = (one.fullmatch(word) for one in (REGISTRY_OPTION, HOME_OPTION, DAY_OPTION))
+        if registry:
+            self.registries.append(registry.groups())
+        elif home and self.home is None:
+            self.home = home[1]
+        elif today and self.today is None and is_day(today[1]):
+            self.today = today[1]
+        else:
+            return False
+        return True
+
+
+NO_OPTIONS = Options([])
+
+
 # ---- runs
 
 
 def findings_of(policy, graph, table, seen, built, registries=()):
     """What stands, in order."""
     rules = Rules(policy, graph)
-    parts = [crate_rules(rules), dependency_rules(rules, seen, Workspace(graph, seen, registries)), built.found]
+    of_manifests = dependency_rules(rules, seen, Workspace(graph, seen, registries))
+    parts = [policy_rules(policy), crate_rules(rules), of_manifests, built.found]
     parts += [feature_rules(policy, graph), licence_rules(policy, graph), std_rules(policy, graph, table)]
     return in_order(finding for findings in parts for finding in findings)
 
@@ -100,25 +138,26 @@ def file_lines(unread, malformed):
         yield line("malformed", {"path": path})
 
 
-def report(policy_text, metadata_text, replacements=None, disk=NoDisk(), registries=(), home=None):
+def report(policy_text, metadata_text, replacements=None, disk=NoDisk(), options=NO_OPTIONS):
     """The lines of the report on these texts and its status, or the line of a stop and its status."""
     try:
-        policy = read_policy(policy_text)
+        written = written_policy(policy_text, options.today)
     except Faults as found:
         return stop_line("config", faults=[fault_value(fault) for fault in found.faults]), 19
-    contradictions = clashes(policy)
+    contradictions = clashes(written)
     if contradictions:
         return stop_line("invalid", diagnostics=[clash_value(one, policy_text) for one in contradictions]), 20
     try:
         graph = read_metadata(metadata_text)
     except Fault as fault:
         return stop_line("metadata", fault=fault.fault, detail=fault.detail), 21
+    policy = written.on(options.today)
     try:
         table = table_for(policy, replacements)
     except Bad as bad:
         return stop_line("replacement", offset=bad.args[0]), 22
-    seen, built, trees = Seen(graph, disk), Built(policy, graph, disk, home), Trees(graph)
-    found = findings_of(policy, graph, table, seen, built, registries)
+    seen, built, trees = Seen(graph, disk), Built(policy, graph, disk, options.home), Trees(graph)
+    found = findings_of(policy, graph, table, seen, built, options.registries)
     lines = [finding_line(finding, policy_text, trees) for finding in found]
     lines += [dead_line(entry) for entry in dead_entries(policy, graph, table, built, found)]
     lines += file_lines(seen.unread + built.unread, seen.malformed)
@@ -133,27 +172,6 @@ def is_path(word):
 
 def is_number(word):
     return re.fullmatch("0|[1-9][0-9]*", word) is not None and int(word) <= MOST_MADE
-
-
-REGISTRY_OPTION = re.compile("--registry=([^=]+)=(.+)", re.DOTALL)
-HOME_OPTION = re.compile("--home=(.+)", re.DOTALL)
-
-
-class Options:
-    """The options behind a command: the registries, each its name and its address, the folder of cargo, which can be
-    named once, or None, and how many words they are."""
-
-    def __init__(self, words):
-        self.registries, self.home, self.count = [], None, 0
-        for word in words[1:] if words[:1] == ["check"] else []:
-            registry, home = REGISTRY_OPTION.fullmatch(word), HOME_OPTION.fullmatch(word)
-            if registry:
-                self.registries.append(registry.groups())
-            elif home and self.home is None:
-                self.home = home[1]
-            else:
-                break
-            self.count += 1
 
 
 # What a word behind the options has to be, and how many words there are at least.
@@ -224,4 +242,4 @@ def run(words, disk):
             return stop_line("read", file=file), 17
         if len(read[-1]) >= LIMIT:
             return stop_line("long", file=file), 18
-    return report(*read, disk=disk, registries=options.registries, home=options.home)
+    return report(*read, disk=disk, options=options)

@@ -15,7 +15,7 @@ CODES = [
     "unused-wrapper",
     "workspace-duplicate", "unresolved-workspace-dependency", "unused-workspace-dependency", "replaced-in-std",
     "unmatched-replacement-ignore", "accepted", "rejected", "unlicensed", "parse-error",
-    "skipped-private-workspace-crate", "license-not-encountered", "license-exception-not-encountered",
+    "skipped-private-workspace-crate", "license-not-encountered", "license-exception-not-encountered", "waiver-expired",
 ]
 # The exit bit of the check that a section belongs to.
 BITS = {section: 4 if section.startswith("licenses") else 2 for section in SECTIONS}

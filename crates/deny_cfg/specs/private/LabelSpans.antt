@@ -9,7 +9,7 @@ use Rattle.deny_cfg_tables.specs.declared.bans.cfg.config.Config.{Config}
 use Rattle.deny_cfg_tables.specs.declared.bans.cfg.features.CrateFeatures.{CrateFeatures}
 use Rattle.deny_cfg_entries.specs.declared.spec_or_extended.PackageSpecOrExtended.{PackageSpecOrExtended}
 use Rattle.deny_cfg.specs.LabelSpans.{of_some, joined, own_span, word_spans, spec_span, reason_span, with_spec}
-use Rattle.deny_cfg.specs.LabelSpans.{root_spans, std_spans, path_spans}
+use Rattle.deny_cfg.specs.LabelSpans.{root_spans, std_spans, path_spans, waiver_spans}
 
 -- a ban as it is written: its wrappers, its flag, its reason and its replacement
 abbrev pub crate_ban_spans : CrateBanExtended → List Span
@@ -33,6 +33,7 @@ written_bypass_spans bypass =
     ∷ word_spans bypass.required_features
     ∷ of_some word_spans bypass.allow_globs
     ∷ flat_map path_spans bypass.allow
+    ∷ of_some own_span bypass.expires
     ∷ []
     )
 
@@ -51,7 +52,7 @@ config_labels config = joined (
     ∷ of_some own_span config.external_default_features
     ∷ of_some own_span config.workspace_default_features
     ∷ flat_map crate_feature_spans config.features
-    ∷ flat_map (with_spec reason_span) config.skip
+    ∷ flat_map (with_spec waiver_spans) config.skip
     ∷ flat_map (with_spec root_spans) config.skip_tree
     ∷ of_some std_spans config.std_replacements
     ∷ of_some written_build_spans config.build

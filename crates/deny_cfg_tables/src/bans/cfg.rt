@@ -1,7 +1,7 @@
 //! The tables and entries of `[bans]`. Their keys are those of cargo-deny: a field has the name of
 //! its key, with `_` for `-`, where its comment names no other key.
 
-use deny_cfg_entries::{PackageSpecOrExtended, Reason};
+use deny_cfg_entries::{PackageSpecOrExtended, Reason, Waiver};
 
 mod ban;
 mod build;
@@ -31,11 +31,11 @@ pub type CrateBan = PackageSpecOrExtended<CrateBanExtended>;
 /// An entry of `allow`.
 pub type CrateAllow = PackageSpecOrExtended<Reason>;
 
-/// An entry of `skip`.
-pub type CrateSkip = PackageSpecOrExtended<Reason>;
+/// An entry of `skip`, or of `ignore` in `std-replacements`.
+pub type CrateSkip = PackageSpecOrExtended<Waiver>;
 
 /// An entry of `skip-tree`.
 pub type TreeSkip = PackageSpecOrExtended<TreeSkipExtended>;
 
-/// An entry of `ignore` in `std-replacements`.
+/// An entry that gives nothing but a reason beside its spec.
 pub type SpecAndReason = PackageSpecOrExtended<Reason>;

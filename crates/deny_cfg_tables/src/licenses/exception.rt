@@ -6,7 +6,7 @@ ghost use Rattle.deny_cfg_tables.specs.Licenses.{faults_of_exception};
 
 use deny_base::Spanned;
 use deny_base_lists::{List, NoMemory};
-use deny_cfg_entries::{Extended, PackageSpec, PolicyKey, licences, read_entry};
+use deny_cfg_entries::{Expiry, Extended, PackageSpec, PolicyKey, licences, read_entry, table};
 use deny_spdx::Requirement;
 use deny_toml::{DeserError, Deserialize, TableHelper, Value};
 use std::alloc::Global;
@@ -18,6 +18,8 @@ pub struct Exception {
     pub spec: PackageSpec,
     /// The licences that these crates may ask for.
     pub allow: List<Spanned<Requirement>>,
+    /// The last day on which the entry counts; without it, it counts on every day.
+    pub expires: Option<Spanned<Expiry>>,
 }
 
 /// What an entry of `exceptions` gives beside its spec.
@@ -25,6 +27,8 @@ pub struct Exception {
 pub(crate) struct ExceptionKeys {
     /// The key `allow`.
     pub allow: List<Spanned<Requirement>>,
+    /// The key `expires`.
+    pub expires: Option<Spanned<Expiry>>,
 }
 
 impl Extended for ExceptionKeys {
@@ -37,8 +41,9 @@ impl Extended for ExceptionKeys {
         helper: &mut TableHelper<'_>,
     ) -> Result<Option<ExceptionKeys>, NoMemory> {
         let allow = licences(alloc, helper, PolicyKey::Allow)?;
+        let expires = table::optional(helper, PolicyKey::Expires)?;
         match allow {
-            Some(allow) => Ok(Some(ExceptionKeys { allow })),
+            Some(allow) => Ok(Some(ExceptionKeys { allow, expires })),
             None => Ok(None),
         }
     }
@@ -48,7 +53,7 @@ impl Extended for ExceptionKeys {
     ghost depends = { exception-depends };
 }
 
-/// A table that has the keys of a spec, the key `allow` and no others.
+/// A table that has the keys of a spec, the keys of `ExceptionKeys` and no others.
 impl Deserialize for Exception {
     ghost reads = { ReadsException };
 
@@ -59,6 +64,7 @@ impl Deserialize for Exception {
             (spec, Some(keys)) => Ok(Exception {
                 spec,
                 allow: keys.allow,
+                expires: keys.expires,
             }),
             (_, None) => unreachable!(),
         }

@@ -26,6 +26,7 @@ check_view asked = record {
   replacements = option_map text_view asked.replacements;
   home = option_map text_view asked.home;
   registries = registries_in (argument.texts asked.arguments.now);
+  today = asked.today;
 }
 
 abbrev pub command_view : Command → argument.Command
@@ -38,6 +39,7 @@ partial_view asked = record {
   metadata = option_map text_view asked.metadata;
   replacements = option_map text_view asked.replacements;
   home = option_map text_view asked.home;
+  today = asked.today;
 }
 
 abbrev pub form_view : Form → argument.Form

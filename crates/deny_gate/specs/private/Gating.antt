@@ -10,6 +10,7 @@ use Rattle.deny_cfg.specs.Lawful.{IsLawful, IsLawfulLicensing}
 use Rattle.deny_cfg.specs.PolicyText.{ListsFaults, ReportsClashes}
 use Rattle.deny_cfg.specs.PolicyView.{building_of, policy_view}
 use Rattle.deny_cfg.specs.declared.policy.Policy.{Policy}
+use Rattle.deny_cfg_entries.specs.declared.day.Day.{Day}
 use Rattle.deny_krates.specs.Read.{IsGraphOf}
 use Rattle.deny_spec.specs.Graph.{Crate, Graph}
 use Rattle.deny_spec.specs.Licensing.{Licensing}
@@ -47,12 +48,12 @@ use Rattle.deny_gate.specs.Gating.{InputTexts, circumstances_of, IsTableFor, fir
 
 -- when an error may come that depends on the policy alone, or on the metadata alone; out of memory may come at any
 -- time
-abbrev pub IsPolicyCause : List ℕ → GateError → Type 0
-IsPolicyCause policy (Config faults) = ListsFaults policy faults
-IsPolicyCause policy (Invalid clashes) = ReportsClashes policy policy_id clashes
-IsPolicyCause policy (Metadata f) = ⊥
-IsPolicyCause policy (Replacement at) = ⊥
-IsPolicyCause policy Memory = Unit {0}
+abbrev pub IsPolicyCause : Option Day → List ℕ → GateError → Type 0
+IsPolicyCause today policy (Config faults) = ListsFaults today policy faults
+IsPolicyCause today policy (Invalid clashes) = ReportsClashes today policy policy_id clashes
+IsPolicyCause today policy (Metadata f) = ⊥
+IsPolicyCause today policy (Replacement at) = ⊥
+IsPolicyCause today policy Memory = Unit {0}
 
 abbrev pub IsMetadataCause : List ℕ → GateError → Type 0
 IsMetadataCause metadata (Config faults) = ⊥

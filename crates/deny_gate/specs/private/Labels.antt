@@ -6,6 +6,7 @@ use Rattle.deny_base.specs.declared.span.Span.{Span}
 use Rattle.deny_spec.specs.Building.{AllowedPath, Building, Bypass, ScriptGlob}
 use Rattle.deny_base.specs.declared.span.Spanned.{Spanned}
 use Rattle.deny_krates_lock.specs.Text.{IsLineOf, LinesAscend, lock_span_at, lock_text}
+use Rattle.deny_spec.specs.Expired.{PastWaiver}
 use Rattle.deny_spec.specs.Graph.{Crate, Graph}
 use Rattle.deny_spec.specs.Licensing.{Licensing}
 use Rattle.deny_spec.specs.Policy.{AllowEntry, Ban, Entry, FeatureEntry, Policy, Replacing, Root, SpannedText}
@@ -100,6 +101,13 @@ build_spans (Some b) = building_spans b
 abbrev pub built_in_spans : Option Building → List Span
 built_in_spans None = []
 built_in_spans (Some b) = map (λ e. e.span) (built_in_globs b)
+
+-- the spans that the labels of expired waivers mark: their last days and reasons
+unfoldable pub past_waiver_spans : PastWaiver → List Span
+past_waiver_spans w = w.expires.span ∷ span_of w.reason
+
+abbrev pub past_spans : List PastWaiver → List Span
+past_spans waivers = flat_map past_waiver_spans waivers
 
 -- the spans of what a policy says of licences: the licences that every crate may have, and the names of exceptions
 abbrev pub licence_spans : Option Licensing → List Span

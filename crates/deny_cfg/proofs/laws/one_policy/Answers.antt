@@ -1,4 +1,5 @@
-use Rattle.deny_cfg.proofs.OnePolicyLaws.{same_built, same_globs_file, same_licences, same_policy, same_warnings}
+use Rattle.deny_cfg.proofs.OnePolicyLaws.{same_built, same_expired, same_globs_file, same_licences, same_waivers}
+use Rattle.deny_cfg.proofs.OnePolicyLaws.{same_policy, same_warnings}
 use Rattle.deny_cfg.proofs.laws.one_policy.Goals as goal
 
 pub returns-clause-bans : goal.returns-clause-bans
@@ -15,3 +16,9 @@ returns-clause-warnings c = same_warnings
 
 pub returns-clause-licences : goal.returns-clause-licences
 returns-clause-licences c = same_licences
+
+pub returns-clause-waivers : goal.returns-clause-waivers
+returns-clause-waivers c = same_waivers
+
+pub returns-clause-expired : goal.returns-clause-expired
+returns-clause-expired c = same_expired

@@ -9,12 +9,13 @@ returns-clause-clashes c = same_reported
 
 pub returns-clause-faults_alone : goal.returns-clause-faults_alone
 returns-clause-faults_alone c =
-    λ text file faults reported lists reports.
-    says_without_faults text reports.config reports.licensing faults reports.says lists
+    λ today text file faults reported lists reports.
+    says_without_faults today text reports.config reports.licensing faults reports.says lists
 
 pub returns-clause-no_policy_with_faults : goal.returns-clause-no_policy_with_faults
 returns-clause-no_policy_with_faults c =
-    λ text file faults policy lists is. says_without_faults text is.config policy.licenses faults is.says lists
+    λ today text file faults policy lists is.
+    says_without_faults today text is.config is.licensing faults is.says lists
 
 pub returns-clause-no_policy_with_clashes : goal.returns-clause-no_policy_with_clashes
 returns-clause-no_policy_with_clashes c = policy_without_clashes

@@ -19,8 +19,8 @@ returns-in-Ok-clause-says c = record {
 
 pub returns-in-Err-Faults-clause-faults : goal.returns-in-Err-Faults-clause-faults
 returns-in-Err-Faults-clause-faults c =
-    tree_listed c.args.text.now c.in_ok-tree.tree c.in-Err-Faults.faults c.utf8.text c.in_ok-tree.ensures.tree
-    (subst (Reports (faults_of_tree c.in_ok-tree.tree)) c.in-Err-Faults.field-0-is c.in-Err-Faults.ensures.faults)
+    tree_listed c.args.today c.args.text.now c.in_ok-tree.tree c.in-Err-Faults.faults c.utf8.text c.in_ok-tree.ensures.tree
+    (subst (Reports (faults_of_tree c.args.today c.in_ok-tree.tree)) c.in-Err-Faults.field-0-is c.in-Err-Faults.ensures.faults)
 
 pub returns-in-Ok-clause-labels : goal.returns-in-Ok-clause-labels
 returns-in-Ok-clause-labels c =

@@ -5,22 +5,22 @@ ghost use Rattle.deny_cfg_build.specs.Build.{HasFiles, IsBuildOf, files_of};
 ghost use Rattle.deny_cfg_build.specs.Globs.{OfBoth};
 ghost use Rattle.deny_base_lists.specs.Prefix.{Gains, GainsPrefixOf};
 ghost use Rattle.deny_cfg.specs.Clashes.{is_ban};
-ghost use Rattle.deny_cfg.specs.private.Deprecated.{AreReported};
+ghost use Rattle.deny_cfg.specs.private.Warnings.{AreReported};
 ghost use Rattle.deny_cfg.specs.Valid.{IsValidOf, ban_of, features_of, files_asked, is_multiple, krate_ban};
 ghost use Rattle.deny_cfg.specs.Validating.{source_in};
 
 use crate::bans::cfg::ValidTreeSkip;
 use crate::clash_diag::report_clashes;
 use crate::clashes::{is_ban, ordered_clashes};
-use crate::deprecated::report_deprecated;
 use crate::validate::{UnvalidatedConfig, ValidationContext};
+use crate::warnings::report_deprecated;
 use deny_base::{Diagnostic, FileId, Files, LintLevel, Span, Spanned};
 use deny_base_lists::{List, NoMemory, Text};
 use deny_cfg_build::{ValidBuildConfig, build_by, older_key_by, valid_build};
 use deny_cfg_entries::{PackageSpec, PackageSpecOrExtended, Reason};
 use deny_cfg_tables::bans::cfg::{
-    BuildConfig, Config, CrateAllow, CrateBan, CrateBanExtended, CrateFeatures, CrateSkip,
-    GraphHighlight, StdReplacementConfig, WorkspaceDepsConfig,
+    BuildConfig, Config, CrateBan, CrateBanExtended, CrateFeatures, CrateSkip, GraphHighlight,
+    SpecAndReason, StdReplacementConfig, WorkspaceDepsConfig,
 };
 use std::alloc::Global;
 
@@ -73,7 +73,7 @@ pub struct ValidConfig {
     /// The specs of the entries of `deny` that deny only several versions, by `deny-multiple-versions`.
     pub denied_multiple_versions: List<PackageSpec>,
     /// The entries of `allow`: the crates that are allowed; an empty list allows all crates.
-    pub allowed: List<CrateAllow>,
+    pub allowed: List<SpecAndReason>,
     /// Whether members of the workspace need no entry of `allow` and are exempt from the bans.
     pub allow_workspace: bool,
     /// The level of the feature `default` where it is enabled for a crate outside the workspace.

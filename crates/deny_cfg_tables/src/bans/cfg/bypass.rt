@@ -9,7 +9,7 @@ use crate::bans::cfg::checksum::Checksum;
 use deny_base::Spanned;
 use deny_base_lists::{List, NoMemory, Text};
 use deny_cfg_entries::{
-    Extended, FromTable, PackageSpec, PolicyKey, read_entry, read_table, table,
+    Expiry, Extended, FromTable, PackageSpec, PolicyKey, read_entry, read_table, table,
 };
 use deny_toml::{DeserError, Deserialize, TableHelper, Value};
 use std::alloc::Global;
@@ -67,6 +67,8 @@ pub struct Bypass {
     pub allow_globs: Option<List<Spanned<Text>>>,
     /// The single files that are allowed; default none.
     pub allow: List<BypassPath>,
+    /// The last day on which the entry counts; without it, it counts on every day.
+    pub expires: Option<Spanned<Expiry>>,
 }
 
 /// What an entry of `bypass` gives beside its spec.
@@ -80,6 +82,8 @@ pub(crate) struct BypassKeys {
     pub allow_globs: Option<List<Spanned<Text>>>,
     /// The key `allow`; default none.
     pub allow: List<BypassPath>,
+    /// The key `expires`.
+    pub expires: Option<Spanned<Expiry>>,
 }
 
 impl Extended for BypassKeys {
@@ -95,11 +99,13 @@ impl Extended for BypassKeys {
         let required_features = table::optional_list(alloc, helper, PolicyKey::RequiredFeatures)?;
         let allow_globs = table::optional(helper, PolicyKey::AllowGlobs)?;
         let allow = table::optional_list(alloc, helper, PolicyKey::Allow)?;
+        let expires = table::optional(helper, PolicyKey::Expires)?;
         Ok(Some(BypassKeys {
             build_script,
             required_features,
             allow_globs,
             allow,
+            expires,
         }))
     }
 
@@ -122,6 +128,7 @@ impl Deserialize for Bypass {
                 required_features: keys.required_features,
                 allow_globs: keys.allow_globs,
                 allow: keys.allow,
+                expires: keys.expires,
             }),
             (_, None) => unreachable!(),
         }

@@ -7,7 +7,7 @@ ghost use Rattle.deny_cfg_entries.specs.Table as spec;
 ghost use Rattle.deny_cfg_entries.specs.Words.{faults_as};
 ghost use Rattle.deny_cfg_entries.specs.declared.policy_key.PolicyKey.TheVariants as key;
 
-use crate::bans::cfg::SpecAndReason;
+use crate::bans::cfg::CrateSkip;
 use deny_base::LintLevel;
 use deny_base_lists::{List, NoMemory};
 use deny_cfg_entries::{FromTable, PolicyKey, RustVersion, Scope, level_or, read_table, table};
@@ -26,7 +26,7 @@ pub struct StdReplacementConfig {
     /// them.
     pub rust_version: Option<Version>,
     /// The crates that may stay in use; default none.
-    pub ignore: List<SpecAndReason>,
+    pub ignore: List<CrateSkip>,
     /// The crates whose own version of Rust is ignored; default `none`.
     pub ignore_rust_version: Scope,
 }

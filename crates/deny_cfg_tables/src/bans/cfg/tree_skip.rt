@@ -1,11 +1,13 @@
+ghost use Rattle.std.specs.Prelude.{◌≡◌};
 ghost use Rattle.deny_cfg_tables.specs.Apart.{tree_skip-apart, tree_skip_entry-apart};
-ghost use Rattle.deny_cfg_tables.specs.Bans.{tree_skip_fields, ReadsTreeSkip};
+ghost use Rattle.deny_cfg_tables.specs.Bans.{tree_skip_fields, ReadsTreeSkip, says_no_tree};
 ghost use Rattle.deny_cfg_tables.specs.Depends.{tree_skip-depends};
 ghost use Rattle.deny_cfg_entries.specs.Entry.{ReadsSome};
 ghost use Rattle.deny_cfg_entries.specs.Table.{ReadsTable, faults_of_table};
 
+use deny_base::Spanned;
 use deny_base_lists::NoMemory;
-use deny_cfg_entries::{Extended, FromTable, PolicyKey, Reason, read_table, table};
+use deny_cfg_entries::{Expiry, Extended, FromTable, PolicyKey, Reason, read_table, table};
 use deny_toml::{DeserError, Deserialize, TableHelper, Value};
 use std::alloc::Global;
 
@@ -17,6 +19,16 @@ pub struct TreeSkipExtended {
     pub depth: Option<u32>,
     /// Why they are skipped.
     pub reason: Option<Reason>,
+    /// The last day on which the entry counts; without it, it counts on every day.
+    pub expires: Option<Spanned<Expiry>>,
+}
+
+impl TreeSkipExtended {
+    fn says_nothing(&self) -> bool
+        ensures { result ≡ says_no_tree self.now }
+    {
+        self.depth.is_none() && self.reason.is_none() && self.expires.is_none()
+    }
 }
 
 impl FromTable for TreeSkipExtended {
@@ -30,7 +42,12 @@ impl FromTable for TreeSkipExtended {
     ) -> Result<Option<TreeSkipExtended>, NoMemory> {
         let depth = table::optional(helper, PolicyKey::Depth)?;
         let reason = table::optional(helper, PolicyKey::Reason)?;
-        Ok(Some(TreeSkipExtended { depth, reason }))
+        let expires = table::optional(helper, PolicyKey::Expires)?;
+        Ok(Some(TreeSkipExtended {
+            depth,
+            reason,
+            expires,
+        }))
     }
 
     ghost apart = { tree_skip-apart };
@@ -46,7 +63,7 @@ impl Extended for TreeSkipExtended {
         helper: &mut TableHelper<'_>,
     ) -> Result<Option<TreeSkipExtended>, NoMemory> {
         match <TreeSkipExtended as FromTable>::read_keys(alloc, helper)? {
-            Some(skip) => if skip.depth.is_none() && skip.reason.is_none() {
+            Some(skip) => if skip.says_nothing() {
                 Ok(None)
             } else {
                 Ok(Some(skip))

@@ -51,4 +51,5 @@ returns-in-Ok-clause-read g c =
           c.in_ok-replacements.ensures.read;
       home = refl;
       registries = refl;
+      today = refl;
     })

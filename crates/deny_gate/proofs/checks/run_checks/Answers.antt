@@ -17,6 +17,9 @@ returns-clause-checked g c =
     let laws : CheckLaws = record {
       keys = c.bans_unlicensed.ensures.holds;
       packs = c.bans_unlicensed.ensures.reported;
+      unexpired = c.bans_unexpired.ensures.holds;
+      unexpired_packs = c.bans_unexpired.ensures.reported;
+      warned = c.policy_keys.ensures;
       joined = c.joined_keys.ensures;
     } in
     let checked = c.in_ok-end.ensures.checked in

@@ -11,6 +11,7 @@ returns-clause-one c =
       buildings = c.one_policy.ensures.building;
       globs = c.one_policy.ensures.globs;
       licences = c.one_policy.ensures.licences;
+      expired = c.one_policy.ensures.waivers;
       sight = c.one_sight.ensures;
     } in
     λ files texts a b this that unread failures. by_files laws files texts a b this that unread failures
@@ -25,6 +26,7 @@ returns-clause-by_view c =
       buildings = c.one_policy.ensures.building;
       globs = c.one_policy.ensures.globs;
       licences = c.one_policy.ensures.licences;
+      expired = c.one_policy.ensures.waivers;
       sight = c.one_sight.ensures;
     } in
     λ told other texts view packages a b this that. by_view laws told other texts view packages a b this that
@@ -42,6 +44,7 @@ returns-clause-unseen c =
       buildings = c.one_policy.ensures.building;
       globs = c.one_policy.ensures.globs;
       licences = c.one_policy.ensures.licences;
+      expired = c.one_policy.ensures.waivers;
       sight = c.one_sight.ensures;
     } in
     λ told other texts a b this that. by_any laws told other texts a b this that

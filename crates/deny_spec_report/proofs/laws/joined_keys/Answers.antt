@@ -2,4 +2,4 @@ use Rattle.deny_spec_report.proofs.Joined.{joined}
 use Rattle.deny_spec_report.proofs.laws.joined_keys.Goals as goal
 
 pub returns : goal.returns
-returns c = λ d facts xs ys these those. joined d facts xs ys these those
+returns c = λ d facts ws xs ys warned these those. joined d facts ws xs ys warned these those

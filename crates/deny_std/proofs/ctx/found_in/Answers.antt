@@ -4,7 +4,7 @@ use Rattle.deny_base_lists.specs.Ascending.{AreFirst, Lists}
 use Rattle.deny_base.specs.KeyOrder.{span_cmp}
 use Rattle.deny_cfg.specs.PackageSpecOrExtended.{PackageSpecOrExtended}
 use Rattle.deny_cfg.specs.PolicyView.{replacing_view}
-use Rattle.deny_cfg.specs.Reason.{Reason}
+use Rattle.deny_cfg.specs.Waiver.{Waiver}
 use Rattle.deny_spec_report.specs.Saying.{said_in}
 use Rattle.deny_std.specs.private.Hits.{hit_at, unmatched_in, unmatched_span}
 use Rattle.deny_std.specs.private.Partition.{replaced_in}
@@ -24,12 +24,12 @@ returns c =
           c.in_ok-hits.hits
           c.in_ok-unmatched.unmatched refl c.are_placed.ensures c.requires refl c.in_ok-partition.ensures.reported
           c.in_ok-partition.ensures.witnesses
-          (c.in_ok-hits.ensures ∙ ap (λ (es : List (PackageSpecOrExtended Reason)). filter_map (hit_at g witnesses) es)
+          (c.in_ok-hits.ensures ∙ ap (λ (es : List (PackageSpecOrExtended Waiver)). filter_map (hit_at g witnesses) es)
           c.as_slice.ensures)
-          (subst (λ (es : List (PackageSpecOrExtended Reason)). Lists span_cmp
+          (subst (λ (es : List (PackageSpecOrExtended Waiver)). Lists span_cmp
           (Contains (map unmatched_span (unmatched_in witnesses es))) (map unmatched_span c.in_ok-unmatched.unmatched))
           c.as_slice-2.ensures c.in_ok-unmatched.ensures.listed)
-          (subst (λ (es : List (PackageSpecOrExtended Reason)). AreFirst span_cmp unmatched_span
+          (subst (λ (es : List (PackageSpecOrExtended Waiver)). AreFirst span_cmp unmatched_span
           (unmatched_in witnesses es) c.in_ok-unmatched.unmatched) c.as_slice-2.ensures
           c.in_ok-unmatched.ensures.first);
     }

@@ -3,7 +3,7 @@ use Rattle.std.specs.Prelude.{IsTrue, is_some}
 use Rattle.deny_base.specs.declared.span.Span.{Span}
 use Rattle.deny_cfg.specs.PolicyView.{entry_view}
 use Rattle.deny_cfg.specs.PackageSpecOrExtended.{PackageSpecOrExtended}
-use Rattle.deny_cfg.specs.Reason.{Reason}
+use Rattle.deny_cfg.specs.Waiver.{Waiver}
 use Rattle.deny_spec.specs.Policy.{Entry}
 use Rattle.deny_spec.specs.Wrappers.{same_span}
 use Rattle.deny_diags_parts.specs.BySpan.{first_of}
@@ -15,11 +15,11 @@ use Rattle.deny_diags.proofs.writer.DiagWriter.skip.Goals as goal
 pub first-requires : goal.first-requires
 first-requires c =
     let self = c.args.self.now in
-    let span_of : PackageSpecOrExtended Reason → Span = λ e. e.spec.name.span in
+    let span_of : PackageSpecOrExtended Waiver → Span = λ e. e.spec.name.span in
     record {
-      numbered = subst (λ (es : List (PackageSpecOrExtended Reason)). AreNumbered span_of Skip es self.numbers)
+      numbered = subst (λ (es : List (PackageSpecOrExtended Waiver)). AreNumbered span_of Skip es self.numbers)
           (sym c.as_slice-skipped.ensures) self.entries_numbered.skip;
-      there = subst (λ (es : List (PackageSpecOrExtended Reason)). IsTrue (is_some (first_of span_of c.args.span es)))
+      there = subst (λ (es : List (PackageSpecOrExtended Waiver)). IsTrue (is_some (first_of span_of c.args.span es)))
           (sym c.as_slice-skipped.ensures)
           (there_below (λ (e : Entry). same_span e.spec.span c.args.span) entry_view self.ctx.cfg.now.skipped
           c.requires);
@@ -28,6 +28,6 @@ first-requires c =
 pub returns : goal.returns
 returns c =
     let self = c.args.self.now in
-    let span_of : PackageSpecOrExtended Reason → Span = λ e. e.spec.name.span in
+    let span_of : PackageSpecOrExtended Waiver → Span = λ e. e.spec.name.span in
     seen_at (λ (e : Entry). same_span e.spec.span c.args.span) entry_view self.ctx.cfg.now.skipped c.first.result.now
     (sym (ap (first_of span_of c.args.span) c.as_slice-skipped.ensures) ∙ c.first.ensures)

@@ -11,4 +11,5 @@ returns-in-Some-clause-read c =
       c.in_ok-allow.ensures.next,
       there _ _ (ReadsThere ReadsLicences) _ _ c.in-Some.is c.in_ok-allow.ensures.read,
     )
+    ▷ (c.in_ok-expires.ensures.next, c.in_ok-expires.ensures.read)
     ▷ all_read)

@@ -10,4 +10,5 @@ returns-clause-read c = read_table_keys bypass_keys bypass-apart (state_of c.arg
     ▷ (c.in_ok-required_features.ensures.next, c.in_ok-required_features.ensures.read)
     ▷ (c.in_ok-allow_globs.ensures.next, c.in_ok-allow_globs.ensures.read)
     ▷ (c.in_ok-allow.ensures.next, c.in_ok-allow.ensures.read)
+    ▷ (c.in_ok-expires.ensures.next, c.in_ok-expires.ensures.read)
     ▷ all_read)

@@ -8,4 +8,5 @@ pub returns-clause-read : goal.returns-clause-read
 returns-clause-read c = read_table_keys tree_skip_keys tree_skip-apart (state_of c.args.helper.now) (
     (c.in_ok-depth.ensures.next, c.in_ok-depth.ensures.read)
     ▷ (c.in_ok-reason.ensures.next, c.in_ok-reason.ensures.read)
+    ▷ (c.in_ok-expires.ensures.next, c.in_ok-expires.ensures.read)
     ▷ all_read)
